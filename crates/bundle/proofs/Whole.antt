@@ -1,0 +1,73 @@
+-- A bundle has one reading, and no bytes are a bundle and at fault.
+use Rattle.std.proofs.Common.{◌≡◌, ◌≢◌, ℕ, List, [], ◌∷◌, ◌++◌, map, refl, ap, sym, ◌∙◌, subst, arith, append_assoc, append-nil, suc, Some, None}
+use Rattle.std.specs.List.{All, AllPairs}
+use Rattle.std.proofs.lemmas.List.{map-append, get_or_append_left, length-append}
+use Rattle.bundle.specs.Entry.{Entry, IsEntry, entry_bytes}
+use Rattle.bundle.specs.Reading.{entry_at, stripped}
+use Rattle.bundle.specs.Bundle.{AreFiles, entries_bytes, end_line, IsBundle, Stops}
+use Rattle.bundle.proofs.Fronts.{stripped_again}
+use Rattle.bundle.proofs.Laws.{entry_again, some_is}
+
+-- entries that begin a bundle are its first ones
+record Continues (front all : List Entry) (rest : List ℕ) : Type 0 where
+  more : List Entry
+  files : all ≡ front ++ more
+  left : rest ≡ entries_bytes more ++ end_line
+
+each_tail : (e : Entry) (es : List Entry) → All IsEntry (e ∷ es) → All IsEntry es
+each_tail e es all k d low = all (suc k) d (omega arith)
+
+each_head : (e : Entry) (es : List Entry) → All IsEntry (e ∷ es) → IsEntry e
+each_head e es all = all 0 e (omega arith)
+
+continue_by : (e : Entry) (front all : List Entry) (rest : List ℕ) → Continues front all rest → Continues (e ∷ front) (e ∷ all) rest
+continue_by e front all rest c = record { more = c.more; files = ap (λ l. e ∷ l) c.files; left = c.left }
+
+one_entry : (e f : Entry) (x y : List ℕ) → IsEntry e → IsEntry f → entry_bytes e ++ x ≡ entry_bytes f ++ y → (e ≡ f) × (x ≡ y)
+one_entry e f x y fits fits' same =
+    let pair = some_is _ _ (sym (entry_again e x fits) ∙ ap entry_at same ∙ entry_again f y fits') in
+    (ap (λ p. p.0) pair, ap (λ p. p.1) pair)
+
+continues : (front all : List Entry) (rest : List ℕ) → All IsEntry front → All IsEntry all → entries_bytes front ++ rest ≡ entries_bytes all ++ end_line → Continues front all rest
+continues [] all rest fits fits' same = record { more = all; files = refl; left = same }
+continues (e ∷ front) [] rest fits fits' same = cc
+continues (e ∷ front) (f ∷ all) rest fits fits' same =
+    let grouped : entry_bytes e ++ (entries_bytes front ++ rest) ≡ entry_bytes f ++ (entries_bytes all ++ end_line) = sym (append_assoc (entry_bytes e) (entries_bytes front) rest) ∙ same ∙ append_assoc (entry_bytes f) (entries_bytes all) end_line in
+    let one = one_entry e f _ _ (each_head e front fits) (each_head f all fits') grouped in
+    let P : Entry → Type 0 = λ x. Continues (e ∷ front) (x ∷ all) rest in
+    subst P one.0 (continue_by e front all rest (continues front all rest (each_tail e front fits) (each_tail f all fits') one.1))
+
+front_files : (front more : List Entry) → AreFiles (front ++ more) → AreFiles front
+front_files front more good = record {
+  each = λ k d low. subst IsEntry (get_or_append_left front more d k low) (good.each k d (omega (arith, length-append front more)));
+  distinct = λ i j d low high same.
+      let paths = map (λ x. x.path) front in
+      let others = map (λ x. x.path) more in
+      let P : List (List ℕ) → Type 0 = AllPairs (λ p q. p ≢ q) in
+      let apart : AllPairs (λ p q. p ≢ q) (paths ++ others) = subst P (map-append (λ x. x.path) front more) good.distinct in
+      apart i j d low (omega (arith, length-append paths others))
+      (get_or_append_left paths others d i (omega arith) ∙ same ∙ sym (get_or_append_left paths others d j high));
+}
+
+-- after the entries that begin a bundle comes another new one, or the end
+after_stop : (bytes rest : List ℕ) (files : List Entry) → (stop : Stops bytes rest) → IsBundle files bytes → rest ≡ end_line
+after_stop bytes rest files stop is =
+    end_by (continues stop.files files rest stop.good.each is.good.each (sym stop.split ∙ is.whole))
+  where
+    end_by : Continues stop.files files rest → rest ≡ end_line
+    end_by c = end_at c.more c.files c.left
+      where
+        end_at : (more : List Entry) → files ≡ stop.files ++ more → rest ≡ entries_bytes more ++ end_line → rest ≡ end_line
+        end_at [] e left = left
+        end_at (f ∷ more) e left = absurd (stop.last f (entries_bytes more ++ end_line) (left ∙ append_assoc (entry_bytes f) (entries_bytes more) end_line)
+            (front_files (stop.files ++ (f ∷ [])) more (subst AreFiles (e ∙ sym (append_assoc stop.files (f ∷ []) more)) is.good)))
+
+pub no_end_law : (bytes rest : List ℕ) (files : List Entry) → Stops bytes rest → stripped end_line rest ≡ None → IsBundle files bytes → ⊥
+no_end_law bytes rest files stop none is =
+    let e : rest ≡ end_line = after_stop bytes rest files stop is in
+    let found : stripped end_line rest ≡ Some [] = ap (stripped end_line) (e ∙ sym (append-nil end_line)) ∙ stripped_again end_line [] in cc
+
+pub more_law : (bytes rest more : List ℕ) (files : List Entry) → Stops bytes rest → stripped end_line rest ≡ Some more → IsBundle files bytes → more ≡ []
+more_law bytes rest more files stop some is =
+    let e : rest ≡ end_line = after_stop bytes rest files stop is in
+    let found : stripped end_line rest ≡ Some [] = ap (stripped end_line) (e ∙ sym (append-nil end_line)) ∙ stripped_again end_line [] in cc
