@@ -5,6 +5,8 @@
 mod code;
 mod finding;
 mod put;
+#[cfg(test)]
+mod tests;
 mod write;
 
 pub use code::FindingCode;

@@ -13,7 +13,7 @@ pub trait Put {
         ensures { OnOk result (written self.new ≡ written self.old ++ piece.now) };
 
     /// Puts the number at the end, in decimals.
-    fn put_number(&mut self, number: u32) -> Result<(), OutOfMemory>
+    fn put_number(&mut self, number: u64) -> Result<(), OutOfMemory>
         ensures { OnOk result (written self.new ≡ written self.old ++ decimal number) }
     {
         let mut buffer = Buffer::new();

@@ -32,7 +32,7 @@ pub fn put_key<B: Put>(out: &mut B, key: &FindingKey) -> Result<(), OutOfMemory>
 {
     out.put(key.code.code())?;
     out.put("#")?;
-    out.put_number(key.number)?;
+    out.put_number(u64::from(key.number))?;
     out.put(" ")?;
     out.put(key.unit.as_str())?;
     out.put(" > ")?;
