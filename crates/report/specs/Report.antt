@@ -1,5 +1,5 @@
 -- The report of a project's answers: its bytes, line by line.
-use Rattle.std.specs.Prelude.{ℕ, List, [], ◌++◌, Bool, true, false, ◌&&◌, filter, count_by, length, codes, decimal}
+use Rattle.std.specs.Prelude.{ℕ, List, ◌++◌, Bool, true, false, ◌&&◌, filter, count_by, length, codes, decimal}
 use Rattle.std.specs.List.{flat_map}
 use Rattle.report.specs.Rows.{is_program, is_promise, verdict_bytes, finding_bytes}
 use Rattle.report.specs.declared.verdict.Verdict.{Verdict}
