@@ -1,0 +1,142 @@
+-- The findings of one class whose only promise is a lock that is `this` over all of its fields.
+use Rattle.std.specs.Prelude.{◌≡◌, ℕ, ◌+◌, Bool, true, false, ◌==◌, not, List, [], ◌∷◌, ◌++◌, Option, Some, None, length, map, count_by, take, codes, decimal, if◌then◌else◌}
+use Rattle.std.specs.List.{list_any, flat_map, filter_map, find}
+use Rattle.std.specs.List.Sorted.{IsPermutation, IsSortedBy}
+use Rattle.std.specs.Ordering.{nat_cmp, is_lt}
+use Rattle.std.specs.Cmp.Lexicographic.{slice_cmp}
+use Rattle.desk_base.specs.declared.key.PromiseName.TheVariants as kind
+use Rattle.desk_base.specs.declared.key.PromiseKey.{PromiseKey}
+use Rattle.result_records.specs.declared.code.FindingCode.{FindingCode}
+use Rattle.result_records.specs.declared.code.FindingCode.TheVariants as code
+use Rattle.result_records.specs.declared.finding.FindingKey.{FindingKey}
+use Rattle.result_records.specs.declared.finding.FindingLink.{FindingLink}
+use Rattle.result_records.specs.declared.finding.Finding.{Finding}
+use Rattle.report.specs.declared.answers.FindingRow.{FindingRow}
+use Rattle.report.specs.declared.answers.VerdictRow.{VerdictRow}
+use Rattle.report.specs.declared.answers.Answers.{Answers}
+use Rattle.report.specs.declared.verdict.Verdict.TheVariants as verdict
+use Rattle.java_tree.specs.declared.member.Method.{Method}
+use Rattle.java_tree.specs.declared.member.MemberTree.{MemberTree}
+use Rattle.java_tree.specs.declared.member.MemberTree.TheVariants as member
+use Rattle.java_tree.specs.declared.member.Mod.{Mod}
+use Rattle.java_tree.specs.declared.member.Mod.TheVariants as modifier
+use Rattle.java_tree.specs.declared.file.ClassTree.{ClassTree}
+use Rattle.first_judge.specs.Accesses.{Access, method_uses, is_synchronized}
+
+-- one more than the line feeds before a place
+abbrev pub line_at : List ℕ → ℕ → ℕ
+line_at text at = 1 + count_by (λ b. b == 10) (take at text)
+
+-- the lock promise of a class
+abbrev pub lock_key : List ℕ → PromiseKey
+lock_key class = record { target = class; name = kind.RegionLock; detail = codes "L" }
+
+abbrev pub program_key : PromiseKey
+program_key = record { target = []; name = kind.Program; detail = [] }
+
+-- the class has the annotation of the lock
+abbrev pub is_annotation : Mod → Bool
+is_annotation (modifier.Annot annot) = true
+is_annotation _ = false
+
+abbrev pub has_lock : ClassTree → Bool
+has_lock class = list_any is_annotation class.mods
+
+-- the key of a method: class, name and number of parameters
+abbrev pub unit_key : List ℕ → Method → List ℕ
+unit_key class m = class ++ codes "." ++ m.name.name ++ codes "/" ++ decimal (length m.params)
+
+abbrev pub same_kind : Bool → Bool → Bool
+same_kind true true = true
+same_kind false false = true
+same_kind _ _ = false
+
+abbrev pub code_of : Bool → FindingCode
+code_of true = code.UnguardedWrite
+code_of false = code.UnguardedRead
+
+-- where the lock is held the finding holds by nothing else; where it isn't, nothing makes it hold
+abbrev pub alternatives_of : Bool → List (List FindingLink)
+alternatives_of held = if held then [] ∷ [] else []
+
+-- the finding of an access, with the accesses of its method that come before
+abbrev pub row_of : List ℕ → List ℕ → List ℕ → Method → List Access → Access → FindingRow
+row_of path text class m before a = record {
+    finding = record {
+      key = record {
+        code = code_of a.writes;
+        number = 1 + count_by (λ b. same_kind b.writes a.writes) before;
+        unit = unit_key class m;
+        on = lock_key class
+      };
+      place = a.place;
+      subject = a.word.name;
+      alternatives = alternatives_of (is_synchronized m)
+    };
+    path = path;
+    line = line_at text a.word.span.start;
+    fails = not (is_synchronized m)
+  }
+
+-- one finding for each access, in order
+abbrev pub rows_after : List ℕ → List ℕ → List ℕ → Method → List Access → List Access → List FindingRow
+rows_after path text class m before [] = []
+rows_after path text class m before (a ∷ rest) = row_of path text class m before a ∷ rows_after path text class m (before ++ (a ∷ [])) rest
+
+-- a unit with its findings
+pub record Unit : Type 0 where
+  pub key : List ℕ
+  pub rows : List FindingRow
+
+abbrev pub unit_of : List ℕ → List ℕ → List ℕ → Method → Unit
+unit_of path text class m = record { key = unit_key class m; rows = rows_after path text class m [] (method_uses m) }
+
+abbrev pub method_of : MemberTree → Option Method
+method_of (member.Method m) = Some m
+method_of _ = None
+
+-- the methods of a class with their findings, in written order
+abbrev pub units_of : List ℕ → List ℕ → ClassTree → List Unit
+units_of path text class = map (unit_of path text class.name.name) (filter_map method_of class.members)
+
+-- one unit's key comes before another's
+abbrev pub before : Unit → Unit → Bool
+before a b = is_lt (slice_cmp nat_cmp a.key b.key)
+
+-- the same units by the bytes of their keys
+pub record InOrder (written units : List Unit) : Type 0 where
+  pub same : IsPermutation written units
+  pub sorted : IsSortedBy before units
+
+-- where no finding fails the lock promise is firm; else the first that fails is to blame
+abbrev pub lock_row : List ℕ → Option FindingRow → VerdictRow
+lock_row class None = record { key = lock_key class; verdict = verdict.Firm; blame = None; leaf = None }
+lock_row class (Some row) = record { key = lock_key class; verdict = verdict.Inconsistent; blame = Some row.finding.key; leaf = None }
+
+abbrev pub program_row : VerdictRow
+program_row = record { key = program_key; verdict = verdict.Firm; blame = None; leaf = None }
+
+-- the findings of units, one unit after another
+abbrev pub rows_of : List Unit → List FindingRow
+rows_of units = flat_map (λ u. u.rows) units
+
+-- the answers on a class, its units being in order; without the lock's annotation there is no promise
+abbrev pub answers_of : ClassTree → List Unit → Answers
+answers_of class units = record {
+    files = 1;
+    types = 1;
+    units = 1 + length class.members;
+    findings = if has_lock class then rows_of units else [];
+    verdicts = program_row ∷ (if has_lock class then lock_row class.name.name (find (λ r. r.fails) (rows_of units)) ∷ [] else [])
+  }
+
+-- The answers on one file with this path, text and class. No two methods have one key, so the order is
+-- the only one.
+pub record AreAnswers (path text : List ℕ) (class : ClassTree) (answers : Answers) : Type 0 where
+  pub units : List Unit
+  pub order : InOrder (units_of path text class) units
+  pub is : answers ≡ answers_of class units
+
+-- the answers on no file
+abbrev pub no_answers : Answers
+no_answers = record { files = 0; types = 0; units = 0; findings = []; verdicts = program_row ∷ [] }

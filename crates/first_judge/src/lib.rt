@@ -1,0 +1,7 @@
+//! The judge of one class whose only promise is a lock: the lock is `this`, and guards all of its
+//! fields. It knows nothing of files and bundles, and nothing of any other promise.
+#![tactic(auto)]
+
+mod accesses;
+
+pub use accesses::Access;
