@@ -22,6 +22,7 @@ use Rattle.java_tree.specs.declared.member.Mod.{Mod}
 use Rattle.java_tree.specs.declared.member.Mod.TheVariants as modifier
 use Rattle.java_tree.specs.declared.file.ClassTree.{ClassTree}
 use Rattle.first_judge.specs.Accesses.{Access, method_uses, is_synchronized}
+use Rattle.first_judge.specs.declared.rows.UnitRows.{UnitRows}
 
 -- one more than the line feeds before a place
 abbrev pub line_at : List ℕ → ℕ → ℕ
@@ -59,52 +60,54 @@ code_of false = code.UnguardedRead
 abbrev pub alternatives_of : Bool → List (List FindingLink)
 alternatives_of held = if held then [] ∷ [] else []
 
--- the finding of an access, with the accesses of its method that come before
-abbrev pub row_of : List ℕ → List ℕ → List ℕ → Method → List Access → Access → FindingRow
-row_of path text class m before a = record {
+-- the finding of an access of a unit, with its number and line
+abbrev pub row_with : List ℕ → List ℕ → List ℕ → Bool → ℕ → ℕ → Access → FindingRow
+row_with path class unit held number line a = record {
     finding = record {
-      key = record {
-        code = code_of a.writes;
-        number = 1 + count_by (λ b. same_kind b.writes a.writes) before;
-        unit = unit_key class m;
-        on = lock_key class
-      };
+      key = record { code = code_of a.writes; number = number; unit = unit; on = lock_key class };
       place = a.place;
       subject = a.word.name;
-      alternatives = alternatives_of (is_synchronized m)
+      alternatives = alternatives_of held
     };
     path = path;
-    line = line_at text a.word.span.start;
-    fails = not (is_synchronized m)
+    line = line;
+    fails = not held
   }
 
--- one finding for each access, in order
-abbrev pub rows_after : List ℕ → List ℕ → List ℕ → Method → List Access → List Access → List FindingRow
-rows_after path text class m before [] = []
-rows_after path text class m before (a ∷ rest) = row_of path text class m before a ∷ rows_after path text class m (before ++ (a ∷ [])) rest
+-- Findings of one code in one unit are numbered from 1.
+abbrev pub number_of : List Access → Access → ℕ
+number_of before a = 1 + count_by (λ b. same_kind b.writes a.writes) before
 
--- a unit with its findings
-pub record Unit : Type 0 where
-  pub key : List ℕ
-  pub rows : List FindingRow
+-- one finding for each access, in order, after the accesses of the unit that come before
+abbrev pub rows_with : List ℕ → List ℕ → List ℕ → List ℕ → Bool → List Access → List Access → List FindingRow
+rows_with path text class unit held before [] = []
+rows_with path text class unit held before (a ∷ rest) =
+    row_with path class unit held (number_of before a) (line_at text a.word.span.start) a ∷ rows_with path text class unit held (before ++ (a ∷ [])) rest
 
-abbrev pub unit_of : List ℕ → List ℕ → List ℕ → Method → Unit
-unit_of path text class m = record { key = unit_key class m; rows = rows_after path text class m [] (method_uses m) }
+-- a method with its findings
+abbrev pub unit_of : List ℕ → List ℕ → List ℕ → Method → UnitRows
+unit_of path text class m = record {
+    key = unit_key class m;
+    rows = rows_with path text class (unit_key class m) (is_synchronized m) [] (method_uses m)
+  }
 
 abbrev pub method_of : MemberTree → Option Method
 method_of (member.Method m) = Some m
 method_of _ = None
 
--- the methods of a class with their findings, in written order
-abbrev pub units_of : List ℕ → List ℕ → ClassTree → List Unit
-units_of path text class = map (unit_of path text class.name.name) (filter_map method_of class.members)
+-- the methods among members with their findings, in written order
+abbrev pub units_with : List ℕ → List ℕ → List ℕ → List MemberTree → List UnitRows
+units_with path text class members = map (unit_of path text class) (filter_map method_of members)
+
+abbrev pub units_of : List ℕ → List ℕ → ClassTree → List UnitRows
+units_of path text class = units_with path text class.name.name class.members
 
 -- one unit's key comes before another's
-abbrev pub before : Unit → Unit → Bool
+abbrev pub before : UnitRows → UnitRows → Bool
 before a b = is_lt (slice_cmp nat_cmp a.key b.key)
 
 -- the same units by the bytes of their keys
-pub record InOrder (written units : List Unit) : Type 0 where
+pub record InOrder (written units : List UnitRows) : Type 0 where
   pub same : IsPermutation written units
   pub sorted : IsSortedBy before units
 
@@ -117,11 +120,11 @@ abbrev pub program_row : VerdictRow
 program_row = record { key = program_key; verdict = verdict.Firm; blame = None; leaf = None }
 
 -- the findings of units, one unit after another
-abbrev pub rows_of : List Unit → List FindingRow
+abbrev pub rows_of : List UnitRows → List FindingRow
 rows_of units = flat_map (λ u. u.rows) units
 
 -- the answers on a class, its units being in order; without the lock's annotation there is no promise
-abbrev pub answers_of : ClassTree → List Unit → Answers
+abbrev pub answers_of : ClassTree → List UnitRows → Answers
 answers_of class units = record {
     files = 1;
     types = 1;
@@ -133,7 +136,7 @@ answers_of class units = record {
 -- The answers on one file with this path, text and class. No two methods have one key, so the order is
 -- the only one.
 pub record AreAnswers (path text : List ℕ) (class : ClassTree) (answers : Answers) : Type 0 where
-  pub units : List Unit
+  pub units : List UnitRows
   pub order : InOrder (units_of path text class) units
   pub is : answers ≡ answers_of class units
 

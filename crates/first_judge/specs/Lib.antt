@@ -1,3 +1,4 @@
 pub mod Accesses
 pub mod Findings
 pub mod Seen
+pub mod Numbers

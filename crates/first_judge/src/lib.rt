@@ -3,5 +3,11 @@
 #![tactic(auto)]
 
 mod accesses;
+mod judging;
+mod lines;
+mod rows;
 
 pub use accesses::Access;
+pub use judging::{judge, judge_nothing};
+pub use lines::LineCursor;
+pub use rows::UnitRows;

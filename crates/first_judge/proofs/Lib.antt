@@ -1,0 +1,4 @@
+pub mod Counted
+pub mod RowSteps
+pub mod NamesSeen
+pub mod Members
