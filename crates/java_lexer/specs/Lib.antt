@@ -1,0 +1,6 @@
+pub mod Spelling
+pub mod Words
+pub mod Chars
+pub mod Lumps
+pub mod Lexing
+pub mod Scan

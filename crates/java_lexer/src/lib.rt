@@ -1,0 +1,7 @@
+//! Cuts the text of a Java file into its tokens. It knows blanks, comments, names, numbers, strings
+//! and signs, and nothing of what tokens spell together.
+#![tactic(auto)]
+
+mod scan;
+mod signs;
+mod words;
