@@ -55,9 +55,8 @@ pub record Lexes (text : List ℕ) (tokens : List Token) : Type 0 where
   pub utf8 : IsUtf8 text
   pub cut : CutTo text (length text) tokens
 
--- the text is well-formed UTF-8, and cut up to a place from which it can't be cut on
+-- the text is cut up to a place from which it can't be cut on
 pub record IsStuckAt (text : List ℕ) (at : ℕ) : Type 0 where
-  pub utf8 : IsUtf8 text
   pub from : ℕ
   pub tokens : List Token
   pub cut : CutTo text from tokens
@@ -68,4 +67,4 @@ pub record IsStuckAt (text : List ℕ) (at : ℕ) : Type 0 where
 -- where the first fault is: the first byte of the first ill-formed UTF-8 sequence if there is one,
 -- else where the text can't be cut on
 abbrev pub LexAt : List ℕ → ℕ → Type 0
-LexAt text at = IsValidUpTo text at ⊎ IsStuckAt text at
+LexAt text at = IsValidUpTo text at ⊎ (IsUtf8 text × IsStuckAt text at)

@@ -4,3 +4,5 @@ pub mod Chars
 pub mod Lumps
 pub mod Lexing
 pub mod Scan
+pub mod Front
+pub mod Answers

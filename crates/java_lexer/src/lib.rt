@@ -2,6 +2,12 @@
 //! and signs, and nothing of what tokens spell together.
 #![tactic(auto)]
 
+mod error;
+mod front;
+mod lexer;
 mod scan;
 mod signs;
 mod words;
+
+pub use error::LexError;
+pub use lexer::lex;
