@@ -1,7 +1,7 @@
 -- How far runs, comments and strings go, against what the loops count.
-use Rattle.std.proofs.Common.{◌≡◌, ◌≢◌, ℕ, zero, suc, ◌+◌, ◌-◌, ◌<◌, ◌≤◌, ◌⊎◌, Bool, true, false, not, ◌||◌, ◌&&◌, ◌==◌, cond, Option, Some, None, List, [], ◌∷◌, ◌++◌, length, take, drop, slice_index, refl, sym, ◌∙◌, ap, inl, inr, subst, arith, one-add, add-one}
+use Rattle.std.proofs.Common.{◌≡◌, ℕ, zero, suc, ◌+◌, ◌≤◌, Bool, true, false, ◌&&◌, ◌==◌, cond, Some, None, List, [], ◌∷◌, ◌++◌, length, take, slice_index, refl, sym, ◌∙◌, ap, inl, inr, arith, one-add}
 use Rattle.std.specs.List.{prefix_len, list_all}
-use Rattle.std.proofs.lemmas.Bool.{eqb-true, or_cases, or_parts, or_from, and_parts, and_from, not-true, cases_Bool, cases_eq, both_ways, cond_both}
+use Rattle.std.proofs.lemmas.Bool.{eqb-true, or_parts, or_from, and_parts, and_from, both_ways, cond_both}
 use Rattle.java_lexer.specs.Chars.{is_plain, is_escaped}
 use Rattle.java_lexer.specs.Lumps.{has_close, IsStringTail}
 use Rattle.java_lexer.specs.Lumps.IsStringTail.{closes, goes_on, escapes}
@@ -35,26 +35,30 @@ close_found (b ∷ body) rest at h =
 pub close_least : (z : List ℕ) (at n : ℕ) → close_from at z ≡ Some n → at + 2 ≤ n
 close_least [] at n h = cc
 close_least (b ∷ z) at n h = elim (chosen (b == 42 && slice_index z 0 == 47) (Some (at + 2)) (close_from (at + 1) z) (Some n) h) [
-    inl y ↦ let e : at + 2 ≡ n = cc in omega arith
-  | inr y ↦ omega (arith, close_least z (at + 1) n y.1) ]
+  | inl y ↦ let e : at + 2 ≡ n = cc in omega arith
+  | inr y ↦ omega (arith, close_least z (at + 1) n y.1)
+]
 
 -- bytes without a `*/` end before the first one
 pub close_late : (body rest : List ℕ) (at n : ℕ) → close_from at (body ++ rest) ≡ Some n → has_close body ≡ false → at + length body ≤ n
 close_late [] rest at n h none = omega (arith, close_least rest at n h)
 close_late (b ∷ []) rest at n h none = elim (chosen (b == 42 && slice_index rest 0 == 47) (Some (at + 2)) (close_from (at + 1) rest) (Some n) h) [
-    inl y ↦ let e : at + 2 ≡ n = cc in omega arith
-  | inr y ↦ omega (arith, close_least rest (at + 1) n y.1) ]
+  | inl y ↦ let e : at + 2 ≡ n = cc in omega arith
+  | inr y ↦ omega (arith, close_least rest (at + 1) n y.1)
+]
 close_late (b ∷ c ∷ body) rest at n h none =
     let no : ((b == 42 && c == 47) ≡ false) × (has_close (c ∷ body) ≡ false) = or_parts _ _ none in
     elim (chosen (b == 42 && c == 47) (Some (at + 2)) (close_from (at + 1) (c ∷ (body ++ rest))) (Some n) h) [
-    inl y ↦ absurd (both_ways (b == 42 && c == 47) no.0 y.0)
-  | inr y ↦ omega (arith, close_late (c ∷ body) rest (at + 1) n y.1 no.1) ]
+      | inl y ↦ absurd (both_ways (b == 42 && c == 47) no.0 y.0)
+      | inr y ↦ omega (arith, close_late (c ∷ body) rest (at + 1) n y.1 no.1)
+    ]
 
 pub close_none : (z : List ℕ) (at : ℕ) → close_from at z ≡ None → has_close z ≡ false
 close_none [] at h = refl
 close_none (b ∷ z) at h = elim (chosen (b == 42 && slice_index z 0 == 47) (Some (at + 2)) (close_from (at + 1) z) None h) [
-    inl y ↦ cc
-  | inr y ↦ or_from _ _ y.0 (close_none z (at + 1) y.1) ]
+  | inl y ↦ cc
+  | inr y ↦ or_from _ _ y.0 (close_none z (at + 1) y.1)
+]
 
 first_taken : (k : ℕ) (z w : List ℕ) (c : ℕ) → take k z ≡ c ∷ w → slice_index z 0 ≡ c
 first_taken zero z w c h = cc
@@ -84,13 +88,14 @@ closed_here b (c ∷ z) at n h e =
 pub close_splits : (z : List ℕ) (at n : ℕ) → close_from at z ≡ Some n → Closed z at n
 close_splits [] at n h = cc
 close_splits (b ∷ z) at n h = elim (chosen (b == 42 && slice_index z 0 == 47) (Some (at + 2)) (close_from (at + 1) z) (Some n) h) [
-    inl y ↦ closed_here b z at n y.0 (cc)
+  | inl y ↦ closed_here b z at n y.0 (cc)
   | inr y ↦
       let r = close_splits z (at + 1) n y.1 in
       let e : n ≡ at + suc r.len = omega (arith, r.end) in
       let same = first_before r.body (47 ∷ []) r.len z 42 r.bytes in
       let here : (b == 42 && slice_index (r.body ++ 42 ∷ []) 0 == 47) ≡ false = rw (← same) y.0 in
-      record { len = suc r.len; end = e; body = b ∷ r.body; bytes = ap (λ (w : List ℕ). b ∷ w) r.bytes; open_before = or_from _ _ here r.open_before } ]
+      record { len = suc r.len; end = e; body = b ∷ r.body; bytes = ap (λ (w : List ℕ). b ∷ w) r.bytes; open_before = or_from _ _ here r.open_before }
+]
 
 -- ---- strings
 
@@ -114,16 +119,20 @@ pub string_tail : (escaped : Bool) (z : List ℕ) (at n : ℕ) → string_from e
 string_tail true [] at n h = cc
 string_tail false [] at n h = cc
 string_tail true (b ∷ z) at n h = elim (chosen (is_escaped b) (string_from false (at + 1) z) None (Some n) h) [
-    inl y ↦ let r = string_tail false z (at + 1) n y.1 in
+  | inl y ↦ let r = string_tail false z (at + 1) n y.1 in
       record { len = suc r.len; end = omega (arith, r.end); tail = λ slash e. escapes slash b (take r.len z) e y.0 r.tail }
-  | inr y ↦ cc ]
+  | inr y ↦ cc
+]
 string_tail false (b ∷ z) at n h = elim (chosen (b == 34) (Some (at + 1)) (cond (b == 92) (string_from true (at + 1) z) (cond (is_plain b) (string_from false (at + 1) z) None)) (Some n) h) [
-    inl y ↦ let e : at + 1 ≡ n = cc in
+  | inl y ↦ let e : at + 1 ≡ n = cc in
       record { len = 1; end = sym e; tail = closes b (eqb-true b 34 y.0) }
   | inr y ↦ elim (chosen (b == 92) (string_from true (at + 1) z) (cond (is_plain b) (string_from false (at + 1) z) None) (Some n) y.1) [
-      inl w ↦ let r = string_tail true z (at + 1) n w.1 in
+    | inl w ↦ let r = string_tail true z (at + 1) n w.1 in
         record { len = suc r.len; end = omega (arith, r.end); tail = r.tail b (eqb-true b 92 w.0) }
     | inr w ↦ elim (chosen (is_plain b) (string_from false (at + 1) z) None (Some n) w.1) [
-        inl v ↦ let r = string_tail false z (at + 1) n v.1 in
+      | inl v ↦ let r = string_tail false z (at + 1) n v.1 in
           record { len = suc r.len; end = omega (arith, r.end); tail = goes_on b (take r.len z) v.0 r.tail }
-      | inr v ↦ cc ] ] ]
+      | inr v ↦ cc
+    ]
+  ]
+]

@@ -1,18 +1,18 @@
 -- Bytes are a token of one kind at most, and no token where they are a blank or a comment.
-use Rattle.std.proofs.Common.{◌≡◌, ◌≢◌, ℕ, zero, suc, ◌+◌, ◌≤◌, ◌<◌, ◌⊎◌, Bool, true, false, not, ◌||◌, ◌&&◌, ◌==◌, cond, Option, Some, None, List, [], ◌∷◌, ◌++◌, length, slice_index, refl, sym, ◌∙◌, ap, inl, inr, subst, arith, rules}
+use Rattle.std.proofs.Common.{◌≡◌, ◌≢◌, ℕ, ◌⊎◌, true, false, ◌==◌, cond, Option, Some, None, List, [], ◌∷◌, ◌++◌, slice_index, refl, sym, ◌∙◌, ap, inl, inr, subst, arith, rules}
 use Rattle.std.specs.List.{list_all}
 use Rattle.std.specs.Option.{unwrap_or}
 use Rattle.std.specs.Str.{bytes_eq}
 use Rattle.std.specs.Char.{is_ascii_digit}
-use Rattle.std.proofs.lemmas.Bool.{eqb-true, or_cases, or_parts, or_from, or_right, and_parts, and_from, cases_Bool, both_ways, true≢false}
+use Rattle.std.proofs.lemmas.Bool.{eqb-true, or_right, and_parts, cases_Bool, both_ways}
 use Rattle.std.proofs.lemmas.Slice.Eq.{bytes_eq-Decides}
 use Rattle.java_tree.specs.declared.kind.Kind.{Kind}
 use Rattle.java_tree.specs.declared.kind.Kind.TheVariants as kind
-use Rattle.java_lexer.specs.Chars.{is_name_part, is_blank}
+use Rattle.java_lexer.specs.Chars.{is_name_part}
 use Rattle.java_lexer.specs.Spelling.{spelling}
 use Rattle.java_lexer.specs.Words.{Table, lookup, pick, tables, words_from}
 use Rattle.java_lexer.specs.Scan.{choose, before_equals, twice, single, double_sign, single_sign}
-use Rattle.java_lexer.specs.Lumps.{IsBlank, IsLineComment, IsBlockComment, IsComment, IsOpenComment, IsRun, IsString, IsInt, has_close}
+use Rattle.java_lexer.specs.Lumps.{IsBlank, IsComment, IsOpenComment, IsRun, IsString, IsInt, has_close}
 use Rattle.java_lexer.specs.Lexing.{Spells, IsGap, IsNothing}
 use Rattle.java_lexer.proofs.Bytes.{chosen, at_blank}
 
@@ -53,8 +53,9 @@ tables_spelled = search rules
 lookup_spelled : (t : Table) → AreSpelled t → (word : List ℕ) (k : Kind) → lookup t word ≡ Some k → word ≡ spelling k
 lookup_spelled [] h word k e = cc
 lookup_spelled (x ∷ t) h word k e = elim (chosen (bytes_eq x.0 word) (Some x.1) (lookup t word) (Some k) e) [
-    inl y ↦ let same : x.1 ≡ k = cc in sym ((bytes_eq-Decides x.0 word).0 y.0) ∙ h.0 ∙ ap spelling same
-  | inr y ↦ lookup_spelled t h.1 word k y.1 ]
+  | inl y ↦ let same : x.1 ≡ k = cc in sym ((bytes_eq-Decides x.0 word).0 y.0) ∙ h.0 ∙ ap spelling same
+  | inr y ↦ lookup_spelled t h.1 word k y.1
+]
 
 picked : (ts : List (ℕ × Table)) → AllSpelled ts → (b : ℕ) → AreSpelled (pick ts b)
 picked [] h b = tt
@@ -71,8 +72,9 @@ AreChosen bytes (e ∷ es) = (bytes e.0 ≡ spelling e.1) × AreChosen bytes es
 choose_spelled : (bytes : ℕ → List ℕ) (t : List (ℕ × Kind)) → AreChosen bytes t → (b : ℕ) (k : Kind) → choose t b ≡ Some k → bytes b ≡ spelling k
 choose_spelled bytes [] h b k e = cc
 choose_spelled bytes (x ∷ t) h b k e = elim (chosen (b == x.0) (Some x.1) (choose t b) (Some k) e) [
-    inl y ↦ let same : x.1 ≡ k = cc in ap bytes (eqb-true b x.0 y.0) ∙ h.0 ∙ ap spelling same
-  | inr y ↦ choose_spelled bytes t h.1 b k y.1 ]
+  | inl y ↦ let same : x.1 ≡ k = cc in ap bytes (eqb-true b x.0 y.0) ∙ h.0 ∙ ap spelling same
+  | inr y ↦ choose_spelled bytes t h.1 b k y.1
+]
 
 equals_spelled : AreChosen (λ b. b ∷ 61 ∷ []) before_equals
 equals_spelled = search rules
@@ -90,10 +92,12 @@ single_sign_spelled b k e = choose_spelled (λ (x : ℕ). x ∷ []) single singl
 pub double_sign_spelled : (b c : ℕ) (k : Kind) → double_sign b c ≡ Some k → b ∷ c ∷ [] ≡ spelling k
 unfolding double_sign
 double_sign_spelled b c k e = elim (chosen (c == 61) (choose before_equals b) (cond (b == c) (choose twice b) None) (Some k) e) [
-    inl y ↦ ap (λ (x : ℕ). b ∷ x ∷ []) (eqb-true c 61 y.0) ∙ choose_spelled (λ (x : ℕ). x ∷ 61 ∷ []) before_equals equals_spelled b k y.1
+  | inl y ↦ ap (λ (x : ℕ). b ∷ x ∷ []) (eqb-true c 61 y.0) ∙ choose_spelled (λ (x : ℕ). x ∷ 61 ∷ []) before_equals equals_spelled b k y.1
   | inr y ↦ elim (chosen (b == c) (choose twice b) None (Some k) y.1) [
-      inl w ↦ ap (λ (x : ℕ). b ∷ x ∷ []) (sym (eqb-true b c w.0)) ∙ choose_spelled (λ (x : ℕ). x ∷ x ∷ []) twice twice_spelled b k w.1
-    | inr w ↦ cc ] ]
+    | inl w ↦ ap (λ (x : ℕ). b ∷ x ∷ []) (sym (eqb-true b c w.0)) ∙ choose_spelled (λ (x : ℕ). x ∷ x ∷ []) twice twice_spelled b k w.1
+    | inr w ↦ cc
+  ]
+]
 
 -- ---- one kind at most
 
@@ -105,13 +109,15 @@ kind_of (b ∷ rest) =
 
 not_quote : (b : ℕ) → is_name_part b ≡ true → (b == 34) ≡ false
 not_quote b h = elim (cases_Bool (b == 34)) [
-    inl e ↦ let f : is_name_part 34 ≡ true = subst (λ (x : ℕ). is_name_part x ≡ true) (eqb-true b 34 e) h in cc
-  | inr e ↦ e ]
+  | inl e ↦ let f : is_name_part 34 ≡ true = subst (λ (x : ℕ). is_name_part x ≡ true) (eqb-true b 34 e) h in cc
+  | inr e ↦ e
+]
 
 digit_not_quote : (b : ℕ) → is_ascii_digit b ≡ true → (b == 34) ≡ false
 digit_not_quote b h = elim (cases_Bool (b == 34)) [
-    inl e ↦ let f : is_ascii_digit 34 ≡ true = subst (λ (x : ℕ). is_ascii_digit x ≡ true) (eqb-true b 34 e) h in cc
-  | inr e ↦ e ]
+  | inl e ↦ let f : is_ascii_digit 34 ≡ true = subst (λ (x : ℕ). is_ascii_digit x ≡ true) (eqb-true b 34 e) h in cc
+  | inr e ↦ e
+]
 
 no_word : (o : Option Kind) → ((k : Kind) → o ≡ Some k → ⊥) → unwrap_or o kind.Name ≡ kind.Name
 no_word None h = refl
@@ -189,11 +195,13 @@ unclosed_nothing bytes h =
       no_token = λ k s. let e = spells_kind k bytes s in cc;
       no_blank = λ blank. let e : blank.0 ∷ [] ≡ 47 ∷ 42 ∷ h.0 = sym blank.1 ∙ h.1 in cc;
       no_comment = λ c. elim c [
-          inl line ↦ let f : slice_index (47 ∷ 47 ∷ line.0) 1 ≡ slice_index (47 ∷ 42 ∷ h.0) 1 = ap (λ (xs : List ℕ). slice_index xs 1) (sym line.1 ∙ h.1) in omega arith
+        | inl line ↦ let f : slice_index (47 ∷ 47 ∷ line.0) 1 ≡ slice_index (47 ∷ 42 ∷ h.0) 1 = ap (λ (xs : List ℕ). slice_index xs 1) (sym line.1 ∙ h.1) in omega arith
         | inr block ↦
             let e : 47 ∷ 42 ∷ (block.0 ++ 42 ∷ 47 ∷ []) ≡ 47 ∷ 42 ∷ h.0 = sym block.1 ∙ h.1 in
             let same : block.0 ++ 42 ∷ 47 ∷ [] ≡ h.0 = cc in
-            both_ways (has_close h.0) h.2 (rw (← same) (has_closed block.0 [])) ] }
+            both_ways (has_close h.0) h.2 (rw (← same) (has_closed block.0 []))
+      ];
+    }
 
 digit_kind : (b : ℕ) (rest : List ℕ) → is_ascii_digit b ≡ true → kind_of (b ∷ rest) ≡ Some kind.IntLiteral
 unfolding kind_of
@@ -201,12 +209,13 @@ digit_kind b rest h = let quote = digit_not_quote b h in rw (quote, h) refl
 
 number_nothing_from : (b : ℕ) (rest : List ℕ) → is_ascii_digit b ≡ true → ¬ IsInt (b ∷ rest) → IsNothing (b ∷ rest)
 number_nothing_from b rest h not_int = record {
-    no_token = λ k s.
+  no_token = λ k s.
       let e : Some k ≡ Some kind.IntLiteral = sym (spells_kind k (b ∷ rest) s) ∙ digit_kind b rest h in
       let same : k ≡ kind.IntLiteral = cc in
       not_int (subst (λ (x : Kind). Spells x (b ∷ rest)) same s);
-    no_blank = λ blank. let e = blank_kind (b ∷ rest) blank in let f = digit_kind b rest h in cc;
-    no_comment = λ c. let e = comment_kind (b ∷ rest) c in let f = digit_kind b rest h in cc }
+  no_blank = λ blank. let e = blank_kind (b ∷ rest) blank in let f = digit_kind b rest h in cc;
+  no_comment = λ c. let e = comment_kind (b ∷ rest) c in let f = digit_kind b rest h in cc;
+}
 
 pub number_nothing : (bytes : List ℕ) → is_ascii_digit (slice_index bytes 0) ≡ true → ¬ IsInt bytes → IsNothing bytes
 number_nothing [] h not_int = cc
@@ -230,8 +239,9 @@ fixed_sign b rest name = rw name refl
 
 pub sign_found : (b : ℕ) (rest : List ℕ) (k : Kind) → is_name_part b ≡ false → b ∷ rest ≡ spelling k → sign_of (b ∷ rest) ≡ Some k
 sign_found b rest k name h = elim (known k) [
-    inl none ↦ let e : b ∷ rest ≡ [] = h ∙ none in cc
-  | inr is ↦ sym (fixed_sign b rest name) ∙ ap fixed_of h ∙ is ]
+  | inl none ↦ let e : b ∷ rest ≡ [] = h ∙ none in cc
+  | inr is ↦ sym (fixed_sign b rest name) ∙ ap fixed_of h ∙ is
+]
 
 -- a run that is found in no table is no kind's spelling
 pub word_unknown : (bytes : List ℕ) → IsRun bytes → lookup (words_from (slice_index bytes 0)) bytes ≡ None → (word : Kind) → bytes ≢ spelling word
@@ -239,5 +249,6 @@ word_unknown [] run none word h = absurd run
 word_unknown (b ∷ rest) run none word h =
     let name : is_name_part b ≡ true = (and_parts (is_name_part b) (list_all is_name_part rest) run).0 in
     elim (known word) [
-      inl nil ↦ let e : b ∷ rest ≡ [] = h ∙ nil in cc
-    | inr is ↦ let e : None ≡ Some word = sym none ∙ sym (fixed_word b rest name) ∙ ap fixed_of h ∙ is in cc ]
+      | inl nil ↦ let e : b ∷ rest ≡ [] = h ∙ nil in cc
+      | inr is ↦ let e : None ≡ Some word = sym none ∙ sym (fixed_word b rest name) ∙ ap fixed_of h ∙ is in cc
+    ]

@@ -1,22 +1,21 @@
 -- How long the longest piece that begins a text is.
-use Rattle.std.proofs.Common.{◌≡◌, ◌≢◌, ℕ, zero, suc, ◌+◌, ◌-◌, ◌≤◌, ◌<◌, ◌⊎◌, Bool, true, false, not, ◌||◌, ◌&&◌, ◌==◌, cond, Option, Some, None, List, [], ◌∷◌, ◌++◌, length, take, drop, slice_index, refl, sym, ◌∙◌, ap, inl, inr, subst, arith, one-add, add-one}
+use Rattle.std.proofs.Common.{◌≡◌, ℕ, zero, suc, ◌+◌, ◌≤◌, ◌<◌, Bool, true, false, not, ◌==◌, cond, Option, Some, None, List, [], ◌∷◌, ◌++◌, length, take, drop, slice_index, refl, sym, ◌∙◌, ap, inl, inr, subst, arith, one-add}
 use Rattle.std.specs.Prelude.{is_some}
 use Rattle.std.specs.List.{list_all, prefix_len}
-use Rattle.std.specs.Char.{is_ascii_digit}
-use Rattle.std.proofs.lemmas.Bool.{eqb-true, and_parts, and_from, cases_Bool, both_ways}
-use Rattle.std.proofs.lemmas.List.{take-append-drop, length-take-le, length-append, append_assoc, take_all, take_at}
+use Rattle.std.proofs.lemmas.Bool.{eqb-true, and_parts, and_from, cases_Bool}
+use Rattle.std.proofs.lemmas.List.{take-append-drop, length-take-le, length-append, append_assoc, take_all}
 use Rattle.std.proofs.lemmas.List.Sums.{prefix_len-le-length}
 use Rattle.java_tree.specs.declared.kind.Kind.TheVariants as kind
 use Rattle.java_tree.specs.declared.kind.Kind.{Kind}
 use Rattle.java_lexer.specs.Chars.{is_name_part, is_blank, is_line_end}
 use Rattle.java_lexer.specs.Spelling.{spelling}
-use Rattle.java_lexer.specs.Scan.{close_from, string_from, double_sign, single_sign, choose, twice, before_equals}
-use Rattle.java_lexer.specs.Lumps.{IsBlank, IsLineComment, IsBlockComment, IsComment, IsOpenComment, IsRun, IsString, IsSign, IsLump, IsStringTail, has_close}
+use Rattle.java_lexer.specs.Scan.{close_from, string_from, double_sign, single_sign}
+use Rattle.java_lexer.specs.Lumps.{IsBlank, IsComment, IsOpenComment, IsRun, IsString, IsSign, IsLump, IsStringTail, has_close}
 use Rattle.java_lexer.specs.Lumps.IsLump.{blank, comment, unclosed, run, string, sign}
-use Rattle.java_lexer.specs.Lexing.{Longest, Spells, IsGap}
-use Rattle.java_lexer.proofs.Bytes.{chosen, at_blank, no_double, no_double_at_end}
-use Rattle.java_lexer.proofs.Counts.{all_prefix, prefix_all, close_found, close_late, close_none, close_splits, Closed, string_found, string_tail, Ends}
-use Rattle.java_lexer.proofs.KindLemmas.{sign_of, fixed_of, known, single_sign_spelled, double_sign_spelled, sign_found, spelled_fixed, blank_kind}
+use Rattle.java_lexer.specs.Lexing.{Longest, Spells}
+use Rattle.java_lexer.proofs.Bytes.{at_blank, no_double, no_double_at_end}
+use Rattle.java_lexer.proofs.Counts.{all_prefix, prefix_all, close_found, close_late, close_none, close_splits, string_found, string_tail}
+use Rattle.java_lexer.proofs.KindLemmas.{sign_of, single_sign_spelled, double_sign_spelled, sign_found, spelled_fixed}
 
 abbrev pub in_line : ℕ → Bool
 in_line b = not (is_line_end b)
@@ -48,8 +47,9 @@ lump_len (b ∷ z) =
 slash_some : (z : List ℕ) → 1 ≤ slash_len z
 slash_some [] = omega arith
 slash_some (c ∷ z) = elim (cases_Bool (c == 47)) [
-    inl e ↦ rw e (omega arith)
-  | inr e ↦ rw e (elim (cases_Bool (c == 42)) [ inl f ↦ rw f (some_block (close_from 0 z)) | inr f ↦ rw f (omega arith) ]) ]
+  | inl e ↦ rw e (omega arith)
+  | inr e ↦ rw e (elim (cases_Bool (c == 42)) [ inl f ↦ rw f (some_block (close_from 0 z)) | inr f ↦ rw f (omega arith) ])
+]
   where
     some_block : (o : Option ℕ) → 1 ≤ block_len (2 + length z) o
     some_block None = omega arith
@@ -94,14 +94,18 @@ bounds_string tail t rest = rw (no_double 34 (slice_index (tail ++ rest) 0) refl
 bounds_single : (b : ℕ) (rest : List ℕ) (k : Kind) → is_name_part b ≡ false → single_sign b ≡ Some k → 1 ≤ lump_len (b ∷ rest)
 unfolding lump_len
 bounds_single b rest k name h = rw name (elim (cases_Bool (is_some (double_sign b (slice_index rest 0)))) [
-    inl e ↦ rw e (omega arith)
+  | inl e ↦ rw e (omega arith)
   | inr e ↦ rw e (elim (cases_Bool (b == 47)) [
-      inl f ↦ rw f (slash_some rest)
+    | inl f ↦ rw f (slash_some rest)
     | inr f ↦ rw f (elim (cases_Bool (is_blank b)) [
-        inl g ↦ rw g (omega arith)
+      | inl g ↦ rw g (omega arith)
       | inr g ↦ rw g (elim (cases_Bool (b == 34)) [
-          inl i ↦ absurd (no_quote b k (eqb-true b 34 i) h)
-        | inr i ↦ rw (i, h) (omega arith) ]) ]) ]) ])
+        | inl i ↦ absurd (no_quote b k (eqb-true b 34 i) h)
+        | inr i ↦ rw (i, h) (omega arith)
+      ])
+    ])
+  ])
+])
   where
     no_quote : (b : ℕ) (k : Kind) → b ≡ 34 → single_sign b ≡ Some k → ⊥
     no_quote b k e h = let f : single_sign 34 ≡ Some k = rw (← e) h in unfold single_sign in cc
@@ -149,8 +153,10 @@ bound_front z m le l =
 
 longest_from : (z : List ℕ) (n : ℕ) → n ≤ length z → IsLump (take n z) → lump_len z ≡ n → Longest z n
 longest_from z n le l e = record {
-    within = le; lump = l;
-    longest = λ m lt most more. let bound = bound_front z m most more in omega arith }
+  within = le;
+  lump = l;
+  longest = λ m lt most more. let bound = bound_front z m most more in omega arith;
+}
 
 none_from : (z : List ℕ) → lump_len z ≡ 0 → (m : ℕ) → m ≤ length z → ¬ IsLump (take m z)
 none_from z e = λ m le l.

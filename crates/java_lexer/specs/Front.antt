@@ -1,6 +1,5 @@
 -- What the lexer finds at the front of a text.
 use Rattle.std.specs.Prelude.{ℕ, List, take}
-use Rattle.java_tree.specs.declared.kind.Kind.{Kind}
 use Rattle.java_lexer.specs.declared.front.Front.{Front}
 use Rattle.java_lexer.specs.declared.front.Front.TheVariants.{Gap, Token, Fault}
 use Rattle.java_lexer.specs.Lexing.{Longest, IsGap, Spells, IsFault}

@@ -1,6 +1,6 @@
 -- The tokens of a text, and the place where it has none (JLS 8, 3.2: the longest possible
 -- translation is used at each step).
-use Rattle.std.specs.Prelude.{◌≡◌, ◌≢◌, ℕ, ◌+◌, ◌-◌, ◌<◌, ◌≤◌, List, [], ◌∷◌, ◌++◌, length, take, drop, true, false, ◌⊎◌, slice_index, Result, Ok, Err}
+use Rattle.std.specs.Prelude.{◌≡◌, ◌≢◌, ℕ, ◌+◌, ◌-◌, ◌<◌, ◌≤◌, List, [], ◌∷◌, ◌++◌, length, take, drop, false, ◌⊎◌, slice_index}
 use Rattle.std.specs.Str.{IsUtf8, IsValidUpTo}
 use Rattle.std.specs.Char.{is_ascii_digit}
 use Rattle.java_tree.specs.declared.kind.Kind.{Kind}
@@ -68,3 +68,17 @@ pub record IsStuckAt (text : List ℕ) (at : ℕ) : Type 0 where
 -- else where the text can't be cut on
 abbrev pub LexAt : List ℕ → ℕ → Type 0
 LexAt text at = IsValidUpTo text at ⊎ (IsUtf8 text × IsStuckAt text at)
+
+-- The tokens stand in order between the places: none is empty, none begins before the end of the one
+-- before it, and each has the text's bytes at its span.
+abbrev pub Follow : List ℕ → ℕ → List Token → ℕ → Type 0
+Follow text from [] end = from ≤ end
+Follow text from (t ∷ tokens) end =
+    (from ≤ t.span.start) × (t.span.start < t.span.end)
+    × (t.bytes ≡ take (t.span.end - t.span.start) (drop t.span.start text))
+    × Follow text t.span.end tokens end
+
+-- each token's bytes are a token of its kind
+abbrev pub AreSpelled : List Token → Type 0
+AreSpelled [] = Unit {0}
+AreSpelled (t ∷ tokens) = Spells t.kind t.bytes × AreSpelled tokens

@@ -4,7 +4,6 @@ use Rattle.std.specs.Prelude.{◌≡◌, ℕ, zero, suc, ◌+◌, ◌-◌, ◌*�
 use Rattle.std.specs.List.{list_all}
 use Rattle.std.specs.Char.{is_ascii_digit}
 use Rattle.java_tree.specs.declared.kind.Kind.{Kind}
-use Rattle.java_tree.specs.declared.kind.Kind.TheVariants as kind
 use Rattle.java_lexer.specs.Chars.{is_blank, is_line_end, is_name_part, is_plain, is_escaped}
 use Rattle.java_lexer.specs.Spelling.{spelling}
 

@@ -1,8 +1,8 @@
 -- What the lexer's loops count, as functions of lists.
-use Rattle.std.specs.Prelude.{ℕ, suc, ◌+◌, Bool, true, false, not, ◌&&◌, ◌==◌, if◌then◌else◌, List, [], ◌∷◌, Option, Some, None, slice_index}
+use Rattle.std.specs.Prelude.{ℕ, ◌+◌, Bool, true, false, ◌&&◌, ◌==◌, if◌then◌else◌, List, [], ◌∷◌, Option, Some, None, slice_index}
 use Rattle.java_tree.specs.declared.kind.Kind.{Kind}
 use Rattle.java_tree.specs.declared.kind.Kind.TheVariants as kind
-use Rattle.java_lexer.specs.Chars.{is_line_end, is_plain, is_escaped}
+use Rattle.java_lexer.specs.Chars.{is_plain, is_escaped}
 
 -- the place behind the first `*/`, for bytes that begin at a place
 abbrev pub close_from : ℕ → List ℕ → Option ℕ

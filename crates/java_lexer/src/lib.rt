@@ -4,10 +4,14 @@
 
 mod error;
 mod front;
+mod laws;
 mod lexer;
 mod scan;
 mod signs;
+#[cfg(test)]
+mod tests;
 mod words;
 
 pub use error::LexError;
+pub use laws::{one_reading, tokens_follow, tokens_spelled};
 pub use lexer::lex;
