@@ -6,3 +6,4 @@ pub mod Lexing
 pub mod Scan
 pub mod Front
 pub mod Answers
+pub mod Value

@@ -10,8 +10,10 @@ mod scan;
 mod signs;
 #[cfg(test)]
 mod tests;
+mod value;
 mod words;
 
 pub use error::LexError;
 pub use laws::{one_reading, tokens_follow, tokens_spelled};
 pub use lexer::lex;
+pub use value::string_value;
