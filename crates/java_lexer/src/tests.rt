@@ -1,4 +1,4 @@
-use crate::{LexError, lex, one_reading, tokens_follow, tokens_spelled};
+use crate::{LexError, lex, one_reading, string_value, tokens_follow, tokens_spelled};
 use java_tree::Kind;
 use sqlite_items::Items;
 use std::test::Fail;
@@ -138,6 +138,15 @@ const REFUSED: [(&[u8], u32); 21] = [
     (b"caf\xc3\xa9", 3),
 ];
 
+/// A string as written, and its value.
+const STRINGS: [(&[u8], &[u8]); 5] = [
+    (b"\"\"", b""),
+    (b"\"L is l\"", b"L is l"),
+    (b"\"\\b\\t\\n\\f\\r\"", b"\x08\t\n\x0c\r"),
+    (b"\"\\\"\\'\\\\n\"", b"\"'\\n"),
+    (b"\"\xc3\xa9\"", b"\xc3\xa9"),
+];
+
 #[test]
 fn cuts_texts(rt: HostRuntime) -> Result<(), Fail> {
     for (text, wanted) in SPELLED {
@@ -154,6 +163,13 @@ fn cuts_texts(rt: HostRuntime) -> Result<(), Fail> {
             Ok(_) => assert!(rt; false, "{text:?} has tokens"),
             Err(fault) => assert_eq!(rt; fault, LexError::Lex { at }, "in {text:?}"),
         }
+    }
+    for (literal, value) in STRINGS {
+        assert_eq!(rt;
+            string_value(rt.alloc(), literal)?.as_slice(),
+            value,
+            "of {literal:?}"
+        );
     }
     one_reading();
     tokens_follow();
