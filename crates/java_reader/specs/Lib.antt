@@ -1,0 +1,4 @@
+pub mod Phrase
+pub mod Spelling
+pub mod Reading
+pub mod Cursor
