@@ -1,2 +1,5 @@
 pub mod Turned
 pub mod Token
+pub mod Loops
+pub mod Phrases
+pub mod Sound

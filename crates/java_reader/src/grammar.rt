@@ -94,3 +94,111 @@ fn result_type(tokens: &mut Tokens) -> Result<Option<Ty>, ReadError>
         _ => Err(ReadError::Form),
     }
 }
+
+fn assigns(alloc: Global, tokens: &mut Tokens) -> Result<Items<BlockItem>, ReadError>
+    ensures { Steps spec.assigns tokens.old result tokens.new }
+{
+    let mut items = Items::new(alloc);
+    'more: while tokens.sees(Kind::Name) {
+        items.push(assign(alloc, tokens)?)?;
+    }
+    Ok(items)
+}
+
+#[tactic(auto, unfolding(crate::specs::Reading::ended))]
+fn ended(
+    alloc: Global,
+    tokens: &mut Tokens,
+    returns: bool,
+    items: Items<BlockItem>,
+) -> Result<Items<BlockItem>, ReadError>
+    ensures { Steps (spec.ended returns items) tokens.old result tokens.new }
+{
+    let mut items = items;
+    if returns {
+        items.push(return_item(alloc, tokens)?)?;
+    }
+    Ok(items)
+}
+
+#[tactic(auto, unfolding(crate::specs::Reading::body))]
+fn body(alloc: Global, tokens: &mut Tokens, returns: bool) -> Result<Block, ReadError>
+    ensures { Steps (spec.body returns) tokens.old result tokens.new }
+{
+    let opening = tokens.sign(Kind::LBrace)?;
+    let items = assigns(alloc, tokens)?;
+    let items = ended(alloc, tokens, returns, items)?;
+    let closing = tokens.sign(Kind::RBrace)?;
+    Ok(Block {
+        opening,
+        items,
+        closing,
+    })
+}
+
+/// The rest of a field, after its name.
+#[tactic(auto, using(crate::proofs::Phrases::before_is), unfolding(crate::specs::Reading::field))]
+fn field(
+    alloc: Global,
+    tokens: &mut Tokens,
+    mods: Items<Mod>,
+    ty: Ty,
+    name: Word,
+) -> Result<MemberTree, ReadError>
+    ensures reads { Reads (spec.field (from_start tokens.old) mods ty name (ahead tokens.old)) result (ahead tokens.new) }
+    ensures fresh { OnOk result (tokens.new.taken ≡ []) }
+{
+    tokens.sign(Kind::Semicolon)?;
+    Ok(MemberTree::Field(Field {
+        mods,
+        ty,
+        name,
+        init: None,
+        tokens: tokens.keep(alloc),
+    }))
+}
+
+/// The rest of a method, after its name.
+#[tactic(auto, using(crate::proofs::Phrases::before_is), unfolding(crate::specs::Reading::method))]
+fn method(
+    alloc: Global,
+    tokens: &mut Tokens,
+    mods: Items<Mod>,
+    result_type: Option<Ty>,
+    name: Word,
+) -> Result<MemberTree, ReadError>
+    ensures reads { Reads (spec.method (from_start tokens.old) mods result_type name (ahead tokens.old)) result (ahead tokens.new) }
+    ensures fresh { OnOk result (tokens.new.taken ≡ []) }
+{
+    tokens.sign(Kind::LParen)?;
+    tokens.sign(Kind::RParen)?;
+    let body = body(alloc, tokens, result_type.is_some())?;
+    Ok(MemberTree::Method(Method {
+        mods,
+        result: result_type,
+        name,
+        params: Items::new(alloc),
+        throws: Items::new(alloc),
+        body,
+        tokens: tokens.keep(alloc),
+    }))
+}
+
+#[tactic(auto, unfolding(crate::specs::Reading::member))]
+fn member(alloc: Global, tokens: &mut Tokens) -> Result<MemberTree, ReadError>
+    requires { tokens.old.taken ≡ [] }
+    ensures reads { Reads (spec.member (ahead tokens.old)) result (ahead tokens.new) }
+    ensures fresh { OnOk result (tokens.new.taken ≡ []) }
+{
+    let mods = held(alloc, tokens)?;
+    let result_type = result_type(tokens)?;
+    let name = tokens.word(alloc, Kind::Name)?;
+    if mods.is_empty() && tokens.sees(Kind::Semicolon) {
+        match result_type {
+            Some(ty) => field(alloc, tokens, mods, ty, name),
+            None => Err(ReadError::Form),
+        }
+    } else {
+        method(alloc, tokens, mods, result_type, name)
+    }
+}
