@@ -3,3 +3,4 @@ pub mod Token
 pub mod Loops
 pub mod Phrases
 pub mod Sound
+pub mod Complete

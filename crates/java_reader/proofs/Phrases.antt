@@ -76,7 +76,7 @@ pub next-word : (kind : Kind) (w : Word) (ts rest : List Token) → Spelled kind
 unfolding next_kind
 next-word kind w ts rest (t, e, is, stands) = rw (e, is) refl
 
-abbrev seen : Kind → Option Kind → Bool
+abbrev pub seen : Kind → Option Kind → Bool
 seen kind None = false
 seen kind (Some other) = same_kind other kind
 

@@ -27,7 +27,7 @@ use Rattle.java_tree.specs.declared.file.TypeKind.TheVariants as sort
 use Rattle.java_tree.specs.declared.file.ClassTree.{ClassTree}
 use Rattle.java_tree.specs.declared.file.FileTree.{FileTree}
 use Rattle.java_reader.specs.Phrase.{word_of}
-use Rattle.java_reader.specs.Spelling.{assignment, return_of, block_of, lock_of}
+use Rattle.java_reader.specs.Spelling.{assignment, return_of, block_of, lock_of, file_of}
 
 -- what was found and the tokens after it, or that nothing was
 pub data Outcome (A : Type 0) : Type 0 where
@@ -147,7 +147,8 @@ return_item = do
 
 -- a return behind the items, where one is due
 unfoldable pub ended : Bool → List BlockItem → Parser (List BlockItem)
-ended returns items = if returns then (do last ← return_item; pure (items ++ last ∷ [])) else pure items
+ended true items = do last ← return_item; pure (items ++ last ∷ [])
+ended false items = pure items
 
 unfoldable pub body : Bool → Parser Block
 body returns = do
@@ -157,10 +158,12 @@ body returns = do
   closing ← sign k.RBrace
   pure (block_of opening items closing)
 
+abbrev pub held_by : Bool → Parser (List Mod)
+held_by true = do at ← sign k.Synchronized; pure (modifier.Word modword.Synchronized at ∷ [])
+held_by false = pure []
+
 unfoldable pub held : Parser (List Mod)
-held = do
-  found ← look k.Synchronized
-  if found then (do at ← sign k.Synchronized; pure (modifier.Word modword.Synchronized at ∷ [])) else pure []
+held = look k.Synchronized >>= held_by
 
 abbrev pub result_by : Option Kind → Parser (Option Ty)
 result_by (Some k.Void) = do at ← sign k.Void; pure None
@@ -188,12 +191,10 @@ abbrev pub is_plain : List Mod → Bool
 is_plain [] = true
 is_plain (one ∷ mods) = false
 
-abbrev pub field_or_none : List Token → List Mod → Option Ty → Word → Parser MemberTree
-field_or_none start mods (Some type) name = field start mods type name
-field_or_none start mods None name = fail
-
 abbrev pub member_by : List Token → List Mod → Option Ty → Word → Bool → Parser MemberTree
-member_by start mods result name is_field = if is_field then field_or_none start mods result name else method start mods result name
+member_by start mods result name false = method start mods result name
+member_by start mods (Some type) name true = field start mods type name
+member_by start mods None name true = fail
 
 unfoldable pub member : Parser MemberTree
 member start = (do
@@ -223,10 +224,19 @@ lock = do
   closing ← sign k.RParen
   pure (lock_of at name opening text closing)
 
+abbrev pub locks_by : Bool → Parser (List Mod)
+locks_by true = do one ← lock; pure (one ∷ [])
+locks_by false = pure []
+
 unfoldable pub locks : Parser (List Mod)
-locks = do
-  found ← look k.At
-  if found then (do one ← lock; pure (one ∷ [])) else pure []
+locks = look k.At >>= locks_by
+
+unfoldable pub class_body : Parser (List MemberTree)
+class_body = do
+  sign k.LBrace
+  found ← members
+  sign k.RBrace
+  pure found
 
 unfoldable pub class_tree : Parser ClassTree
 class_tree start = (do
@@ -234,17 +244,18 @@ class_tree start = (do
   sign k.Class
   name ← word k.Name
   header ← since start
-  sign k.LBrace
-  found ← members
-  sign k.RBrace
+  found ← class_body
   pure (record { mods = mods; kind = sort.Class; name = name; implements = []; members = found; tokens = header })) start
 
+abbrev pub end_by : Option Kind → Parser (Unit {0})
+end_by None = pure tt
+end_by (Some kind) = fail
+
 abbrev pub end : Parser (Unit {0})
-end [] = Found tt []
-end (t ∷ ts) = Lost
+end = peek >>= end_by
 
 unfoldable pub file : Parser FileTree
 file = do
   class ← class_tree
   end
-  pure (record { «package» = None; imports = []; types = class ∷ [] })
+  pure (file_of class)

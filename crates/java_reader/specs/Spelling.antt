@@ -127,6 +127,9 @@ abbrev pub Class : ClassTree → Phrase
 Class c ts rest = (c.kind ≡ sort.Class) × (c.implements ≡ [])
     × (Kept c.tokens (Locks c.mods ⨾ Mark k.Class ⨾ Spelled k.Name c.name) ⨾ Mark k.LBrace ⨾ Each Member c.members ⨾ Mark k.RBrace) ts rest
 
+abbrev pub file_of : ClassTree → FileTree
+file_of c = record { «package» = None; imports = []; types = c ∷ [] }
+
 -- File = [Lock] "class" Name "{" {Field | Method} "}"
 abbrev pub Spells : List Token → FileTree → Type 0
-Spells tokens file = (c : ClassTree) × (file ≡ record { «package» = None; imports = []; types = c ∷ [] }) × Class c tokens []
+Spells tokens file = (c : ClassTree) × (file ≡ file_of c) × Class c tokens []

@@ -1,6 +1,7 @@
 //! The productions of the form, each a function that reads it from the tokens ahead.
 
-ghost use Rattle.std.specs.Prelude.{◌≡◌, [], OnOk};
+ghost use Rattle.std.specs.Prelude.{◌≡◌, [], OnOk, IfOk, IfErr};
+ghost use Rattle.java_reader.specs.Spelling.{lock_of, file_of};
 ghost use Rattle.java_reader.specs.Reading as spec;
 ghost use Rattle.java_reader.specs.Cursor.{ahead, from_start, Reads, Steps};
 
@@ -201,4 +202,132 @@ fn member(alloc: Global, tokens: &mut Tokens) -> Result<MemberTree, ReadError>
     } else {
         method(alloc, tokens, mods, result_type, name)
     }
+}
+
+fn members(alloc: Global, tokens: &mut Tokens) -> Result<Items<MemberTree>, ReadError>
+    requires { tokens.old.taken ≡ [] }
+    ensures reads { Reads (spec.members (ahead tokens.old)) result (ahead tokens.new) }
+    ensures fresh { OnOk result (tokens.new.taken ≡ []) }
+{
+    let mut found = Items::new(alloc);
+    'more: while !tokens.sees(Kind::RBrace) {
+        found.push(member(alloc, tokens)?)?;
+    }
+    Ok(found)
+}
+
+/// Reads the name `RegionLock`.
+#[tactic(auto, unfolding(crate::specs::Reading::region_lock))]
+fn region_lock(alloc: Global, tokens: &mut Tokens) -> Result<Word, ReadError>
+    ensures { Steps spec.region_lock tokens.old result tokens.new }
+{
+    let word = tokens.word(alloc, Kind::Name)?;
+    if word.name.as_slice() == b"RegionLock".as_slice() {
+        Ok(word)
+    } else {
+        Err(ReadError::Form)
+    }
+}
+
+#[tactic(auto, unfolding(crate::specs::Reading::lock))]
+fn lock(alloc: Global, tokens: &mut Tokens) -> Result<Mod, ReadError>
+    ensures { Steps spec.lock tokens.old result tokens.new }
+{
+    let at = tokens.sign(Kind::At)?;
+    let name = region_lock(alloc, tokens)?;
+    let opening = tokens.sign(Kind::LParen)?;
+    let text = tokens.word(alloc, Kind::StrLiteral)?;
+    let closing = tokens.sign(Kind::RParen)?;
+    lock_tree(alloc, at, name, opening, text, closing)
+}
+
+fn lock_tree(
+    alloc: Global,
+    at: Span,
+    name: Word,
+    opening: Span,
+    text: Word,
+    closing: Span,
+) -> Result<Mod, ReadError>
+    ensures made { IfOk result (λ made. made ≡ lock_of at name opening text closing) }
+    ensures memory { IfErr result (λ e. e ≡ ReadError.OutOfMemory) }
+{
+    let mut names = Items::new(alloc);
+    names.push(name)?;
+    let element = Boxed::new(alloc, Elem::Str(text))?;
+    Ok(Mod::Annot(Annot {
+        at,
+        name: names,
+        elements: Elements::One(opening, None, element, closing),
+    }))
+}
+
+#[tactic(auto, unfolding(crate::specs::Reading::locks))]
+fn locks(alloc: Global, tokens: &mut Tokens) -> Result<Items<Mod>, ReadError>
+    ensures { Steps spec.locks tokens.old result tokens.new }
+{
+    let mut mods = Items::new(alloc);
+    if tokens.sees(Kind::At) {
+        mods.push(lock(alloc, tokens)?)?;
+    }
+    Ok(mods)
+}
+
+#[tactic(auto, using(crate::proofs::Phrases::before_is), unfolding(crate::specs::Reading::class_tree))]
+fn class_tree(alloc: Global, tokens: &mut Tokens) -> Result<ClassTree, ReadError>
+    requires { tokens.old.taken ≡ [] }
+    ensures { Reads (spec.class_tree (ahead tokens.old)) result (ahead tokens.new) }
+{
+    let mods = locks(alloc, tokens)?;
+    tokens.sign(Kind::Class)?;
+    let name = tokens.word(alloc, Kind::Name)?;
+    let header = tokens.keep(alloc);
+    let members = class_body(alloc, tokens)?;
+    Ok(ClassTree {
+        mods,
+        kind: TypeKind::Class,
+        name,
+        implements: Items::new(alloc),
+        members,
+        tokens: header,
+    })
+}
+
+/// The members of a class and the braces round them, of which no part keeps the tokens.
+#[tactic(auto, unfolding(crate::specs::Reading::class_body))]
+fn class_body(alloc: Global, tokens: &mut Tokens) -> Result<Items<MemberTree>, ReadError>
+    requires { tokens.old.taken ≡ [] }
+    ensures { Reads (spec.class_body (ahead tokens.old)) result (ahead tokens.new) }
+{
+    tokens.sign(Kind::LBrace)?;
+    let _brace = tokens.keep(alloc);
+    let found = members(alloc, tokens)?;
+    tokens.sign(Kind::RBrace)?;
+    Ok(found)
+}
+
+/// A whole file: one class, and no token after it.
+#[tactic(auto, unfolding(crate::specs::Reading::file))]
+pub(crate) fn file_tree(alloc: Global, tokens: &mut Tokens) -> Result<FileTree, ReadError>
+    requires { tokens.old.taken ≡ [] }
+    ensures { Reads (spec.file (ahead tokens.old)) result (ahead tokens.new) }
+{
+    let class = class_tree(alloc, tokens)?;
+    match tokens.peek() {
+        Some(_) => Err(ReadError::Form),
+        None => file_with(alloc, class),
+    }
+}
+
+fn file_with(alloc: Global, class: ClassTree) -> Result<FileTree, ReadError>
+    ensures made { IfOk result (λ made. made ≡ file_of class) }
+    ensures memory { IfErr result (λ e. e ≡ ReadError.OutOfMemory) }
+{
+    let mut types = Items::new(alloc);
+    types.push(class)?;
+    Ok(FileTree {
+        package: None,
+        imports: Items::new(alloc),
+        types,
+    })
 }
