@@ -1,0 +1,5 @@
+mod Bytes
+mod Counts
+mod KindLemmas
+mod Pieces
+mod Reading
