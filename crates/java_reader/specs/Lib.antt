@@ -2,3 +2,5 @@ pub mod Phrase
 pub mod Spelling
 pub mod Reading
 pub mod Cursor
+pub mod FirstForm
+pub mod Names

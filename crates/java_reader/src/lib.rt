@@ -3,7 +3,9 @@
 #![tactic(auto)]
 
 mod error;
+mod form;
 mod grammar;
+mod names;
 mod tokens;
 
 pub use error::ReadError;
