@@ -4,3 +4,4 @@ pub mod Loops
 pub mod Phrases
 pub mod Sound
 pub mod Complete
+pub mod FormLemmas

@@ -123,14 +123,18 @@ field_names c = filter_map field_name c.members
 abbrev pub method_names : ClassTree → List (List ℕ)
 method_names c = filter_map method_name c.members
 
-pub record IsFirstClass (c : ClassTree) : Type 0 where
+-- what each part of a class meets, where Known says of a name that it is a field
+pub record MeetsEach (Known : List ℕ → Type 0) (c : ClassTree) : Type 0 where
   pub lock : All IsLock c.mods
   pub short : IsShort c.name
   pub free : ¬ IsLibraryName c.name.name
-  -- no two fields have a name, and no two methods
+  pub members : All (IsMember Known) c.members
+
+-- No two fields have one name, nor have two methods; and each part meets its conditions.
+pub record IsFirstClass (c : ClassTree) : Type 0 where
   pub fields : AllPairs ◌≢◌ (field_names c)
   pub methods : AllPairs ◌≢◌ (method_names c)
-  pub members : All (IsMember (Contains (field_names c))) c.members
+  pub each : MeetsEach (Contains (field_names c)) c
 
 abbrev pub IsFirstForm : FileTree → Type 0
 IsFirstForm file = All IsFirstClass file.types

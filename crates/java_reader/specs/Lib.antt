@@ -4,3 +4,4 @@ pub mod Reading
 pub mod Cursor
 pub mod FirstForm
 pub mod Names
+pub mod Reads

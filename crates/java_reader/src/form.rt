@@ -208,21 +208,28 @@ fn distinct_names<'a>(alloc: Global, names: &[&'a [u8]]) -> Result<Option<Names<
     Ok(Some(set))
 }
 
+/// Whether a class whose fields have these names meets what the form asks of its parts.
+fn meets_each<'a>(fields: &Names<'a>, class: &'a ClassTree) -> bool
+    ensures { IsTrue result ↔ spec.MeetsEach (λ name. IsTrue (knows fields.now name)) class.now }
+{
+    are_locks(class.mods.as_slice())
+        && is_short(&class.name)
+        && !is_library_name(class.name.name.as_slice())
+        && are_members(fields, class.members.as_slice())
+}
+
 fn is_first_class(alloc: Global, class: &ClassTree) -> Result<bool, OutOfMemory>
     ensures { IfOk result (λ meets. IsTrue meets ↔ spec.IsFirstClass class.now) }
 {
-    let members = class.members.as_slice();
-    let fields = field_names(alloc, members)?;
-    let methods = method_names(alloc, members)?;
-    let Some(known) = distinct_names(alloc, fields.as_slice())? else {
+    let fields = field_names(alloc, class.members.as_slice())?;
+    let methods = method_names(alloc, class.members.as_slice())?;
+    let Some(fields) = distinct_names(alloc, fields.as_slice())? else {
         return Ok(false);
     };
-    let has_distinct_methods = distinct_names(alloc, methods.as_slice())?.is_some();
-    Ok(has_distinct_methods
-        && are_locks(class.mods.as_slice())
-        && is_short(&class.name)
-        && !is_library_name(class.name.name.as_slice())
-        && are_members(&known, members))
+    match distinct_names(alloc, methods.as_slice())? {
+        Some(_) => Ok(meets_each(&fields, class)),
+        None => Ok(false),
+    }
 }
 
 /// Whether the tree meets what the form asks besides its spelling.

@@ -5,7 +5,11 @@
 mod error;
 mod form;
 mod grammar;
+mod line;
 mod names;
+mod reader;
 mod tokens;
 
 pub use error::ReadError;
+pub use line::line_of;
+pub use reader::read_file;

@@ -4,6 +4,6 @@ use Rattle.java_reader.proofs.form.distinct_names.Given as goal
 
 abbrev pub invariant-loop-name : goal.invariant-loop-name
 invariant-loop-name l = record {
-  distinct : AllPairs ◌≢◌ (now_of (take l.name-index l.names));
-  known : (name : List ℕ) → IsTrue (knows l.set name) ↔ Contains (now_of (take l.name-index l.names)) name
+  distinct : AllPairs ◌≢◌ (take l.name-index (now_of l.names));
+  known : (name : List ℕ) → IsTrue (knows l.set name) ↔ Contains (take l.name-index (now_of l.names)) name
 }
