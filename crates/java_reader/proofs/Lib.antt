@@ -5,3 +5,4 @@ pub mod Phrases
 pub mod Sound
 pub mod Complete
 pub mod FormLemmas
+pub mod ReaderLemmas

@@ -5,11 +5,13 @@
 mod error;
 mod form;
 mod grammar;
+mod laws;
 mod line;
 mod names;
 mod reader;
 mod tokens;
 
 pub use error::ReadError;
+pub use laws::one_tree;
 pub use line::line_of;
 pub use reader::read_file;
