@@ -1,0 +1,7 @@
+pub mod Phrase
+pub mod Spelling
+pub mod Reading
+pub mod Cursor
+pub mod FirstForm
+pub mod Names
+pub mod Reads
