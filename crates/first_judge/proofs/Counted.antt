@@ -28,14 +28,14 @@ more_by n before a true is counted =
     let writes : count_by (λ b. same_kind b.writes true) (a ∷ []) ≡ 1 = ap (λ w. count_by (λ b. same_kind b true) (w ∷ [])) is in
     record {
       reads = omega (arith, counts_push (λ b. same_kind b.writes false) before a, counted.reads, reads);
-      writes = omega (arith, counts_push (λ b. same_kind b.writes true) before a, counted.writes, writes)
+      writes = omega (arith, counts_push (λ b. same_kind b.writes true) before a, counted.writes, writes);
     }
 more_by n before a false is counted =
     let reads : count_by (λ b. same_kind b.writes false) (a ∷ []) ≡ 1 = ap (λ w. count_by (λ b. same_kind b false) (w ∷ [])) is in
     let writes : count_by (λ b. same_kind b.writes true) (a ∷ []) ≡ 0 = ap (λ w. count_by (λ b. same_kind b true) (w ∷ [])) is in
     record {
       reads = omega (arith, counts_push (λ b. same_kind b.writes false) before a, counted.reads, reads);
-      writes = omega (arith, counts_push (λ b. same_kind b.writes true) before a, counted.writes, writes)
+      writes = omega (arith, counts_push (λ b. same_kind b.writes true) before a, counted.writes, writes);
     }
 
 pub counted_more : (n : Numbers) (before : List Access) (a : Access) → Counted n before → Counted (numbers_after n a.writes) (before ++ (a ∷ []))

@@ -52,8 +52,8 @@ target_named sign place _ h = tt
 action_named : (before : ℕ) (a : Action) → Ascii (names_of_action a) → Named (action_uses before a)
 action_named before (Assign target sign at value) h =
     join (target_uses sign (before + 1) (name_of (out-Expr target))) (value_reads (before + 3) (name_of (out-Expr value)))
-      (target_named sign (before + 1) (out-Expr target) (left_of (names_of_expr (out-Expr target)) (names_of_expr (out-Expr value)) h))
-      (value_named (before + 3) (out-Expr value) (right_of (names_of_expr (out-Expr target)) (names_of_expr (out-Expr value)) h))
+    (target_named sign (before + 1) (out-Expr target) (left_of (names_of_expr (out-Expr target)) (names_of_expr (out-Expr value)) h))
+    (value_named (before + 3) (out-Expr value) (right_of (names_of_expr (out-Expr target)) (names_of_expr (out-Expr value)) h))
 action_named before _ h = tt
 
 stmt_named : (before : ℕ) (s : Stmt-F BlockItem Stmt Block) → Ascii (names_of_stmt s) → Named (stmt_uses before s)
@@ -72,8 +72,8 @@ items_named before (item ∷ items) h =
     let others = flat_map (λ i. names_of_item (out-BlockItem i)) items in
     let split : Ascii (here ++ others) = subst Ascii (flat_map-cons (λ i. names_of_item (out-BlockItem i)) item items) h in
     join (item_uses before (out-BlockItem item)) (items_uses (before + 4) items)
-      (item_named before (out-BlockItem item) (left_of here others split))
-      (items_named (before + 4) items (right_of here others split))
+    (item_named before (out-BlockItem item) (left_of here others split))
+    (items_named (before + 4) items (right_of here others split))
 
 kept : (list : List Kept) → Named (all_seen list) → AllByRecursion (λ a. IsAscii a.word.now.name) list
 kept [] h = tt

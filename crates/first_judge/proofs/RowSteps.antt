@@ -25,7 +25,7 @@ pub rows_step : (path text class unit : List ℕ) (held : Bool) (rows all : List
     → (rows ++ (row ∷ [])) ++ rows_with path text class unit held (all_seen (take (i + 1) list)) (all_seen (drop (i + 1) list)) ≡ all
 rows_step path text class unit held rows all list i number line item row low is so n l r =
     rw (seen_before list i item low is, r, n, l, append_assoc)
-      (ap (λ a. rows ++ rows_with path text class unit held (all_seen (take i list)) a) (sym (seen_after list i item low is)) ∙ so)
+    (ap (λ a. rows ++ rows_with path text class unit held (all_seen (take i list)) a) (sym (seen_after list i item low is)) ∙ so)
 
 pub counted_step : (list : List Kept) (i : ℕ) (item : Kept) (n : Numbers) → i < length list → item ≡ get_or list i item → Counted n (all_seen (take i list)) → Counted (numbers_after n item.writes) (all_seen (take (i + 1) list))
 counted_step list i item n low is counted =

@@ -63,16 +63,16 @@ alternatives_of held = if held then [] ∷ [] else []
 -- the finding of an access of a unit, with its number and line
 abbrev pub row_with : List ℕ → List ℕ → List ℕ → Bool → ℕ → ℕ → Access → FindingRow
 row_with path class unit held number line a = record {
-    finding = record {
-      key = record { code = code_of a.writes; number = number; unit = unit; on = lock_key class };
-      place = a.place;
-      subject = a.word.name;
-      alternatives = alternatives_of held
-    };
-    path = path;
-    line = line;
-    fails = not held
-  }
+  finding = record {
+    key = record { code = code_of a.writes; number = number; unit = unit; on = lock_key class };
+    place = a.place;
+    subject = a.word.name;
+    alternatives = alternatives_of held;
+  };
+  path = path;
+  line = line;
+  fails = not held;
+}
 
 -- Findings of one code in one unit are numbered from 1.
 abbrev pub number_of : List Access → Access → ℕ
@@ -87,9 +87,9 @@ rows_with path text class unit held before (a ∷ rest) =
 -- a method with its findings
 abbrev pub unit_of : List ℕ → List ℕ → List ℕ → Method → UnitRows
 unit_of path text class m = record {
-    key = unit_key class m;
-    rows = rows_with path text class (unit_key class m) (is_synchronized m) [] (method_uses m)
-  }
+  key = unit_key class m;
+  rows = rows_with path text class (unit_key class m) (is_synchronized m) [] (method_uses m);
+}
 
 abbrev pub method_of : MemberTree → Option Method
 method_of (member.Method m) = Some m
@@ -126,12 +126,12 @@ rows_of units = flat_map (λ u. u.rows) units
 -- the answers on a class, its units being in order; without the lock's annotation there is no promise
 abbrev pub answers_of : ClassTree → List UnitRows → Answers
 answers_of class units = record {
-    files = 1;
-    types = 1;
-    units = 1 + length class.members;
-    findings = if has_lock class then rows_of units else [];
-    verdicts = program_row ∷ (if has_lock class then lock_row class.name.name (find (λ r. r.fails) (rows_of units)) ∷ [] else [])
-  }
+  files = 1;
+  types = 1;
+  units = 1 + length class.members;
+  findings = if has_lock class then rows_of units else [];
+  verdicts = program_row ∷ (if has_lock class then lock_row class.name.name (find (λ r. r.fails) (rows_of units)) ∷ [] else []);
+}
 
 -- The answers on one file with this path, text and class. No two methods have one key, so the order is
 -- the only one.

@@ -32,7 +32,11 @@ fn name_of(value: &Expr) -> Option<&Word>
 pub fn is_synchronized(method: &Method) -> bool
     ensures { result ≡ is_synchronized method.now }
 {
-    method.mods.as_slice().iter().any(|word| matches!(word, Mod::Word(ModWord::Synchronized, _)))
+    method
+        .mods
+        .as_slice()
+        .iter()
+        .any(|word| matches!(word, Mod::Word(ModWord::Synchronized, _)))
 }
 
 // So many tokens more; a method with 2^32 tokens is more than memory has room for.
@@ -42,7 +46,12 @@ fn after(before: u32, tokens: u32) -> Result<u32, OutOfMemory>
     before.checked_add(tokens).ok_or(OutOfMemory)
 }
 
-fn put<'a>(out: &mut Vec<Access<'a>>, writes: bool, place: u32, word: &'a Word) -> Result<(), OutOfMemory>
+fn put<'a>(
+    out: &mut Vec<Access<'a>>,
+    writes: bool,
+    place: u32,
+    word: &'a Word,
+) -> Result<(), OutOfMemory>
     ensures { OnOk result (all_seen out.new.items ≡ all_seen out.old.items ++ access writes place word.now ∷ []) }
 {
     out.push(Access {
@@ -54,7 +63,12 @@ fn put<'a>(out: &mut Vec<Access<'a>>, writes: bool, place: u32, word: &'a Word) 
 }
 
 // Puts the read of a value that is so many tokens further.
-fn put_value<'a>(out: &mut Vec<Access<'a>>, before: u32, tokens: u32, value: &'a Expr) -> Result<(), OutOfMemory>
+fn put_value<'a>(
+    out: &mut Vec<Access<'a>>,
+    before: u32,
+    tokens: u32,
+    value: &'a Expr,
+) -> Result<(), OutOfMemory>
     ensures { OnOk result (all_seen out.new.items ≡ all_seen out.old.items ++ value_reads (before + tokens) (name_of (out-Expr value.now))) }
 {
     match name_of(value) {
@@ -67,7 +81,12 @@ fn put_value<'a>(out: &mut Vec<Access<'a>>, before: u32, tokens: u32, value: &'a
 }
 
 // Puts what an assignment does to its target.
-fn put_target<'a>(out: &mut Vec<Access<'a>>, before: u32, sign: AssignOp, target: &'a Expr) -> Result<(), OutOfMemory>
+fn put_target<'a>(
+    out: &mut Vec<Access<'a>>,
+    before: u32,
+    sign: AssignOp,
+    target: &'a Expr,
+) -> Result<(), OutOfMemory>
     ensures { OnOk result (all_seen out.new.items ≡ all_seen out.old.items ++ target_uses sign (before + 1) (name_of (out-Expr target.now))) }
 {
     match name_of(target) {
@@ -85,7 +104,11 @@ fn put_target<'a>(out: &mut Vec<Access<'a>>, before: u32, sign: AssignOp, target
     }
 }
 
-fn put_action<'a>(out: &mut Vec<Access<'a>>, before: u32, action: &'a Action) -> Result<(), OutOfMemory>
+fn put_action<'a>(
+    out: &mut Vec<Access<'a>>,
+    before: u32,
+    action: &'a Action,
+) -> Result<(), OutOfMemory>
     ensures { OnOk result (all_seen out.new.items ≡ all_seen out.old.items ++ action_uses before action.now) }
 {
     match action {
@@ -107,7 +130,11 @@ fn put_stmt<'a>(out: &mut Vec<Access<'a>>, before: u32, stmt: &'a Stmt) -> Resul
     }
 }
 
-fn put_item<'a>(out: &mut Vec<Access<'a>>, before: u32, item: &'a BlockItem) -> Result<(), OutOfMemory>
+fn put_item<'a>(
+    out: &mut Vec<Access<'a>>,
+    before: u32,
+    item: &'a BlockItem,
+) -> Result<(), OutOfMemory>
     ensures { OnOk result (all_seen out.new.items ≡ all_seen out.old.items ++ item_uses before (out-BlockItem item.now)) }
 {
     match item {
@@ -117,7 +144,11 @@ fn put_item<'a>(out: &mut Vec<Access<'a>>, before: u32, item: &'a BlockItem) -> 
 }
 
 // The accesses of a body's items, after so many tokens of the unit.
-fn items_accesses(alloc: Global, tokens: u32, items: &[BlockItem]) -> Result<Vec<Access<'_>>, OutOfMemory>
+fn items_accesses(
+    alloc: Global,
+    tokens: u32,
+    items: &[BlockItem],
+) -> Result<Vec<Access<'_>>, OutOfMemory>
     ensures { IfOk result (λ v. all_seen v.items ≡ items_uses tokens items.now) }
 {
     let mut out = Vec::new(alloc);

@@ -16,7 +16,11 @@ use std::alloc::Global;
 fn has_lock(class: &ClassTree) -> bool
     ensures { result ≡ has_lock class.now }
 {
-    class.mods.as_slice().iter().any(|word| matches!(word, Mod::Annot(_)))
+    class
+        .mods
+        .as_slice()
+        .iter()
+        .any(|word| matches!(word, Mod::Annot(_)))
 }
 
 fn program_row(alloc: Global) -> VerdictRow
@@ -125,7 +129,11 @@ fn lock_row(alloc: Global, class: &Name, rows: &[FindingRow]) -> Result<VerdictR
     ensures { IfOk result (λ row. row ≡ lock_row class.now (find (λ r. r.fails) rows.now)) }
 {
     let blame = first_failing(rows)?;
-    let verdict = if blame.is_some() { Verdict::Inconsistent } else { Verdict::Firm };
+    let verdict = if blame.is_some() {
+        Verdict::Inconsistent
+    } else {
+        Verdict::Firm
+    };
     Ok(VerdictRow {
         key: lock_key(alloc, class)?,
         verdict,
@@ -145,7 +153,12 @@ fn count_units(class: &ClassTree) -> Result<u32, OutOfMemory>
 /// The answers on one file with one class, whose only promise, if it has the annotation, is that its
 /// lock `this` guards all of its fields: a finding for each read and write of a field, which holds
 /// exactly where the method is synchronized.
-pub fn judge(alloc: Global, path: &[u8], text: &[u8], class: &ClassTree) -> Result<Answers, OutOfMemory>
+pub fn judge(
+    alloc: Global,
+    path: &[u8],
+    text: &[u8],
+    class: &ClassTree,
+) -> Result<Answers, OutOfMemory>
     requires { AsciiNames class.now }
     ensures { IfOk result (AreAnswers path.now text.now class.now) }
 {

@@ -46,7 +46,11 @@ impl<'a> LineCursor<'a> {
         ensures same { self.new.text.now ≡ self.old.text.now }
     {
         let to = self.text.len().min(place as usize);
-        let (from, line) = if to < self.at { (0, 1) } else { (self.at, self.line) };
+        let (from, line) = if to < self.at {
+            (0, 1)
+        } else {
+            (self.at, self.line)
+        };
         let feeds = feeds_between(self.text, from, to);
         let line = line_after(line, feeds)?;
         self.at = to;

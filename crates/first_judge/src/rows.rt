@@ -111,7 +111,11 @@ fn row(
     requires name { IsAscii access.now.word.now.name }
     ensures { IfOk result (λ row. row ≡ row_with facts.now.path.now facts.now.class.now unit.now held number line (seen access.now)) }
 {
-    let code = if access.writes { FindingCode::UnguardedWrite } else { FindingCode::UnguardedRead };
+    let code = if access.writes {
+        FindingCode::UnguardedWrite
+    } else {
+        FindingCode::UnguardedRead
+    };
     let key = FindingKey {
         code,
         number,
@@ -147,7 +151,10 @@ fn access_rows(
     ensures same { lines.new.text.now ≡ lines.old.text.now }
 {
     let mut rows = Items::new(alloc);
-    let mut numbers = Numbers { reads: 0, writes: 0 };
+    let mut numbers = Numbers {
+        reads: 0,
+        writes: 0,
+    };
     for access in accesses {
         let number = numbers.next(access.writes)?;
         let line = lines.line_of(access.word.span.start)?;
@@ -170,6 +177,13 @@ pub fn unit_rows(
 {
     let key = unit_key(alloc, facts.class, method)?;
     let accesses = accesses_of(alloc, method)?;
-    let rows = access_rows(alloc, facts, lines, &key, is_synchronized(method), accesses.as_slice())?;
+    let rows = access_rows(
+        alloc,
+        facts,
+        lines,
+        &key,
+        is_synchronized(method),
+        accesses.as_slice(),
+    )?;
     Ok(UnitRows { key, rows })
 }

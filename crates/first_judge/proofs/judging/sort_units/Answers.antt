@@ -8,6 +8,6 @@ use Rattle.first_judge.proofs.judging.sort_units.Goals as goal
 
 pub returns : goal.returns
 returns c = record {
-    same = c.sort_unstable_by.ensures.permutation;
-    sorted = c.sort_unstable_by.ensures.sorted before (ranks_by nat_list_cmp_total (λ (u : UnitRows). u.key)) (always_returns_same _ _ _ (λ a r q k. search rules))
-  }
+  same = c.sort_unstable_by.ensures.permutation;
+  sorted = c.sort_unstable_by.ensures.sorted before (ranks_by nat_list_cmp_total (λ (u : UnitRows). u.key)) (always_returns_same _ _ _ (λ a r q k. search rules));
+}

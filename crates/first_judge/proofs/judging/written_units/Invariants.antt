@@ -9,7 +9,7 @@ use Rattle.first_judge.proofs.judging.written_units.Given as goal
 abbrev pub invariant-loop-member : goal.invariant-loop-member
 invariant-loop-member l = record {
   so_far : l.units.items ++ units_with l.facts.path.now l.text l.facts.class.now (drop l.member-index l.members)
-    ≡ units_with l.facts.path.now l.text l.facts.class.now l.members;
+      ≡ units_with l.facts.path.now l.text l.facts.class.now l.members;
   names : AllByRecursion IsAscii (flat_map names_of_member (drop l.member-index l.members));
-  same : l.lines.text.now ≡ l.text
+  same : l.lines.text.now ≡ l.text;
 }

@@ -6,5 +6,5 @@ use Rattle.first_judge.proofs.lines.feeds_between.Given as goal
 abbrev pub invariant-loop-i : goal.invariant-loop-i
 invariant-loop-i l = record {
   led : line_at l.text l.from + l.feeds ≡ line_at l.text l.i;
-  few : l.feeds ≤ l.i
+  few : l.feeds ≤ l.i;
 }

@@ -16,8 +16,8 @@ loop-access-preserved c =
     let P : Numbers → Type 0 = λ n. Counted n (all_seen (take (i + 1) list)) in
     record {
       so_far = rw (c.in_ok-push.ensures.ok, c.line_of.ensures.same)
-        (rows_step c.args.facts.now.path.now c.loop-access.lines.text.now c.args.facts.now.class.now c.args.unit.now c.args.held c.loop-access.rows _ list i
+          (rows_step c.args.facts.now.path.now c.loop-access.lines.text.now c.args.facts.now.class.now c.args.unit.now c.args.held c.loop-access.rows _ list i
           c.in_ok-number.number c.in_ok-line.line item c.in_ok-row.field-0 c.loop-access-test.true c.access-item.is c.loop-access.invariant.so_far number c.in_ok-line.ensures.line c.in_ok-row.ensures);
       counted = subst P (sym c.in_ok-number.ensures.after) counted;
-      same = c.line_of.ensures.same ∙ c.loop-access.invariant.same
+      same = c.line_of.ensures.same ∙ c.loop-access.invariant.same;
     }

@@ -8,7 +8,7 @@ use Rattle.first_judge.proofs.rows.access_rows.Given as goal
 abbrev pub invariant-loop-access : goal.invariant-loop-access
 invariant-loop-access l = record {
   so_far : l.rows ++ rows_with l.facts.path.now l.lines.text.now l.facts.class.now l.unit l.held (all_seen (take l.access-index l.accesses)) (all_seen (drop l.access-index l.accesses))
-    ≡ rows_with l.facts.path.now l.lines.text.now l.facts.class.now l.unit l.held (all_seen (take 0 l.accesses)) (all_seen l.accesses);
+      ≡ rows_with l.facts.path.now l.lines.text.now l.facts.class.now l.unit l.held (all_seen (take 0 l.accesses)) (all_seen l.accesses);
   counted : Counted l.numbers (all_seen (take l.access-index l.accesses));
-  same : l.lines.text.now ≡ l.fn.lines.text.now
+  same : l.lines.text.now ≡ l.fn.lines.text.now;
 }
