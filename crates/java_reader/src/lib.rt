@@ -9,6 +9,8 @@ mod laws;
 mod line;
 mod names;
 mod reader;
+#[cfg(test)]
+mod tests;
 mod tokens;
 
 pub use error::ReadError;
