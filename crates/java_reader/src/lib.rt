@@ -14,6 +14,6 @@ mod tests;
 mod tokens;
 
 pub use error::ReadError;
-pub use laws::one_tree;
+pub use laws::{one_tree, parts_follow};
 pub use line::line_of;
 pub use reader::read_file;

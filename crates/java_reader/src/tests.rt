@@ -1,4 +1,4 @@
-use crate::{ReadError, line_of, one_tree, read_file};
+use crate::{ReadError, line_of, one_tree, parts_follow, read_file};
 use java_tree::{Action, AssignOp, BlockItem, Expr, MemberTree, Stmt};
 use std::test::Fail;
 
@@ -100,6 +100,7 @@ fn texts(rt: HostRuntime) -> Result<(), Fail> {
         Some(ReadError::Form)
     );
     one_tree();
+    parts_follow();
     Ok(())
 }
 
