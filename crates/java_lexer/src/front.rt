@@ -93,7 +93,7 @@ fn block(text: &[u8]) -> Front
 {
     match close_len(&text[2..]) {
         Some(len) => comment(text, 2 + len),
-        None => Front::Fault(0),
+        None => Front::Fault(0), // an open comment, at its first byte
     }
 }
 

@@ -1,6 +1,5 @@
-use crate::{LexError, lex, one_reading, tokens_follow, tokens_spelled};
+use crate::{LexError, lex, one_reading, string_value, tokens_follow, tokens_spelled};
 use java_tree::Kind;
-use sqlite_items::Items;
 use std::test::Fail;
 
 /// A text, and its tokens' kinds with their spans.
@@ -138,9 +137,19 @@ const REFUSED: [(&[u8], u32); 21] = [
     (b"caf\xc3\xa9", 3),
 ];
 
+/// A string as written, and its value.
+const STRINGS: [(&[u8], &[u8]); 5] = [
+    (b"\"\"", b""),
+    (b"\"L is l\"", b"L is l"),
+    (b"\"\\b\\t\\n\\f\\r\"", b"\x08\t\n\x0c\r"),
+    (b"\"\\\"\\'\\\\n\"", b"\"'\\n"),
+    (b"\"\xc3\xa9\"", b"\xc3\xa9"),
+];
+
 #[test]
 fn cuts_texts(rt: HostRuntime) -> Result<(), Fail> {
     for (text, wanted) in SPELLED {
+        assert!(rt; text.len() < 100);
         let tokens = lex(rt.alloc(), text)?;
         assert_eq!(rt; tokens.len(), wanted.len(), "in {text:?}");
         for (token, (kind, start, end)) in tokens.as_slice().iter().zip(wanted) {
@@ -149,11 +158,28 @@ fn cuts_texts(rt: HostRuntime) -> Result<(), Fail> {
             assert_eq!(rt; token.span.end, *end, "in {text:?}");
         }
     }
+    Ok(())
+}
+
+#[test]
+fn places_faults(rt: HostRuntime) {
     for (text, at) in REFUSED {
+        assert!(rt; text.len() < 100);
         match lex(rt.alloc(), text) {
             Ok(_) => assert!(rt; false, "{text:?} has tokens"),
             Err(fault) => assert_eq!(rt; fault, LexError::Lex { at }, "in {text:?}"),
         }
+    }
+}
+
+#[test]
+fn reads_strings(rt: HostRuntime) -> Result<(), Fail> {
+    for (literal, value) in STRINGS {
+        assert_eq!(rt;
+            string_value(rt.alloc(), literal)?.as_slice(),
+            value,
+            "of {literal:?}"
+        );
     }
     one_reading();
     tokens_follow();
