@@ -1,8 +1,7 @@
 -- What tokens spell, the reader finds.
-use Rattle.std.proofs.Common.{◌≡◌, ◌≢◌, ℕ, zero, suc, ◌+◌, ◌-◌, ◌<◌, ◌≤◌, Bool, true, false, not, cond, List, [], ◌∷◌, ◌++◌, length, take, Option, Some, None, is_some, codes, ◌&&◌, refl, ap, ◌∙◌, sym, subst, arith, rules, inl, inr, append_assoc}
+use Rattle.std.proofs.Common.{◌≡◌, ℕ, zero, suc, ◌<◌, Bool, true, false, List, [], ◌∷◌, ◌++◌, length, Option, Some, None, is_some, codes, ◌&&◌, refl, ap, ◌∙◌, sym, arith, inl, inr}
 use Rattle.std.proofs.Math.Seq.{append_snoc}
 use Rattle.std.proofs.lemmas.List.{append-nil}
-use Rattle.std.specs.Str.{bytes_eq}
 use Rattle.std.proofs.lemmas.Slice.Eq.{bytes_eq-Decides}
 use Rattle.desk_base.specs.declared.span.Span.{Span}
 use Rattle.java_tree.specs.declared.kind.Kind.{Kind}
@@ -10,7 +9,6 @@ use Rattle.java_tree.specs.declared.kind.Kind.TheVariants as k
 use Rattle.java_tree.specs.declared.token.Token.{Token}
 use Rattle.java_tree.specs.declared.token.Word.{Word}
 use Rattle.java_tree.specs.declared.expr.Expr.{Expr}
-use Rattle.java_tree.specs.declared.expr.Expr.TheVariants as expr
 use Rattle.java_tree.specs.declared.stmt.AssignOp.{AssignOp}
 use Rattle.java_tree.specs.declared.stmt.AssignOp.TheVariants as op
 use Rattle.java_tree.specs.declared.stmt.BlockItem.{BlockItem}
@@ -28,11 +26,11 @@ use Rattle.java_tree.specs.declared.file.TypeKind.{TypeKind}
 use Rattle.java_tree.specs.declared.file.TypeKind.TheVariants as sort
 use Rattle.java_tree.specs.declared.file.ClassTree.{ClassTree}
 use Rattle.java_tree.specs.declared.file.FileTree.{FileTree}
-use Rattle.java_reader.specs.Phrase.{Phrase, Nothing, ◌⨾◌, Mark, Sign, Spelled, Kept, Each, word_of}
-use Rattle.java_reader.specs.Spelling.{Value, AssignSign, Assign, assignment, Return, return_of, Last, Body, block_of, Held, Result, MethodPhrase, FieldPhrase, Member, lock_of, file_of, Lock, Locks, Class, Spells}
-use Rattle.java_reader.specs.Reading.{Outcome, Found, Lost, Parser, and_then, pure, fail, same_kind, next_kind, sees, sign, word, many_from, many, value, value_by, assign_op, assign_op_by, sign_of, assign, assigns, return_item, ended, body, held, held_by, result_type, result_by, field, method, member, member_by, is_plain, members, goes_on, region_lock, lock, locks, locks_by, class_body, class_tree, before, end, file}
+use Rattle.java_reader.specs.Phrase.{Phrase, ◌⨾◌, Mark, Sign, Spelled, Each}
+use Rattle.java_reader.specs.Spelling.{Value, AssignSign, Assign, Return, Last, Body, Held, Result, Member, Lock, Locks, Class, Spells}
+use Rattle.java_reader.specs.Reading.{Found, Parser, same_kind, next_kind, sees, sign, many_from, many, value, assign_op, sign_of, assign, assigns, return_item, ended, body, held, result_type, field, method, member, member_by, is_plain, members, goes_on, region_lock, lock, locks, class_body, class_tree, before, file}
 use Rattle.java_reader.proofs.Sound.{shorter-assign, shorter-member}
-use Rattle.java_reader.proofs.Phrases.{seen, sees-next, sign-complete, word-complete, sign-mark, next-sign, next-mark, next-word, before_is, and_then-some, pure-is, sign-sound, word-sound, Spent, spent-nothing, spent-first, spent-one, spent-then, spent-before, shorter-first, not_longer, mark-sign}
+use Rattle.java_reader.proofs.Phrases.{sees-next, sign-complete, word-complete, sign-mark, next-sign, next-mark, next-word, before_is}
 
 -- ---- items
 
@@ -176,15 +174,26 @@ member-complete : (m : MemberTree) (ts rest : List Token) → Member m ts rest �
 unfolding member field method
 member-complete (tree.Field f) ts rest (at, a, b, c, ((t1, s, (t2, w, z)), kept)) =
     let (semicolon, last) = sign-mark k.Semicolon t2 rest z in
-    rw (held-complete [] ts ts refl (sees-sign k.Synchronized k.IntType at ts t1 s), result-complete (Some (ty.Int at)) ts t1 s, word-complete k.Name t1 t2 f.name w,
-        sees-mark k.Semicolon k.Semicolon t2 rest z, sign-complete k.Semicolon t2 rest semicolon last)
+    rw (
+      held-complete [] ts ts refl (sees-sign k.Synchronized k.IntType at ts t1 s),
+      result-complete (Some (ty.Int at)) ts t1 s,
+      word-complete k.Name t1 t2 f.name w,
+      sees-mark k.Semicolon k.Semicolon t2 rest z,
+      sign-complete k.Semicolon t2 rest semicolon last,
+    )
     (ap (λ x. Found x rest) (field-is f at (before ts rest) a b c (before_is ts f.tokens rest (sym kept))))
 member-complete (tree.Method m) ts rest (a, b, ((t1, h, (t2, r, (t3, w, (t4, left, (t5, right, inner))))), kept)) =
     let (opening, s4) = sign-mark k.LParen t3 t4 left in
     let (closing, s5) = sign-mark k.RParen t4 t5 right in
-    rw (held-complete m.mods ts t1 h (result-stops m.result t1 t2 r), result-complete m.result t1 t2 r, word-complete k.Name t2 t3 m.name w,
-        method_by ts t3 m.mods m.result m.name (sees-mark k.Semicolon k.LParen t3 t4 left),
-        sign-complete k.LParen t3 t4 opening s4, sign-complete k.RParen t4 t5 closing s5, body-complete m.result m.body t5 rest inner)
+    rw (
+      held-complete m.mods ts t1 h (result-stops m.result t1 t2 r),
+      result-complete m.result t1 t2 r,
+      word-complete k.Name t2 t3 m.name w,
+      method_by ts t3 m.mods m.result m.name (sees-mark k.Semicolon k.LParen t3 t4 left),
+      sign-complete k.LParen t3 t4 opening s4,
+      sign-complete k.RParen t4 t5 closing s5,
+      body-complete m.result m.body t5 rest inner,
+    )
     (ap (λ x. Found x rest) (method-is m (before ts rest) a b (before_is ts m.tokens rest (sym kept))))
 member-complete _ ts rest p = absurd p
 

@@ -1,5 +1,5 @@
 -- Lists of names: that they differ, and which one has.
-use Rattle.std.proofs.Common.{◌≡◌, ◌≢◌, ◌⊎◌, ◌↔◌, ℕ, suc, ◌+◌, ◌-◌, ◌<◌, ◌≤◌, Bool, true, false, not, ◌||◌, IsTrue, List, [], ◌∷◌, ◌++◌, length, take, get_or, map, Option, Some, None, All, AllPairs, Contains, inl, inr, refl, ap, ◌∙◌, sym, subst, arith, rules}
+use Rattle.std.proofs.Common.{◌≡◌, ◌≢◌, ◌⊎◌, ◌↔◌, ℕ, ◌+◌, ◌<◌, Bool, true, false, ◌||◌, IsTrue, List, [], ◌∷◌, ◌++◌, length, take, get_or, Option, Some, None, AllPairs, Contains, inl, inr, refl, ap, ◌∙◌, sym, subst, arith}
 use Rattle.std.specs.List.{filter_map}
 use Rattle.std.specs.Option.{option_to_list}
 use Rattle.std.specs.Str.{bytes_eq}
@@ -21,7 +21,7 @@ use Rattle.java_tree.specs.declared.member.MemberTree.{MemberTree}
 use Rattle.java_tree.specs.declared.member.MemberTree.TheVariants as member
 use Rattle.java_tree.specs.declared.file.ClassTree.{ClassTree}
 use Rattle.java_reader.specs.Names.{now_of}
-use Rattle.java_reader.specs.FirstForm.{IsTargetAt, IsTarget, IsValueAt, IsValue, IsAction, IsStmtAt, IsStmt, IsItemAt, IsItem, IsMember, MeetsEach, IsFirstClass, field_names, method_names, field_name, method_name}
+use Rattle.java_reader.specs.FirstForm.{IsTargetAt, IsValueAt, IsAction, IsStmtAt, IsItemAt, IsMember, MeetsEach, IsFirstClass, field_names, method_names, field_name, method_name}
 
 -- ---- one more
 
@@ -79,15 +79,17 @@ or_right false b e = e
 pub known_more : (xs : List (List ℕ)) (i : ℕ) (x : List ℕ) (old new : List ℕ → Bool) → i < length xs → get_or xs i x ≡ x → ((other : List ℕ) → new other ≡ (bytes_eq x other || old other))
     → ((name : List ℕ) → IsTrue (old name) ↔ Contains (take i xs) name) → (name : List ℕ) → IsTrue (new name) ↔ Contains (take (i + 1) xs) name
 known_more xs i x old new within at after known name =
-    let longer : take (i + 1) xs ≡ take i xs ++ x ∷ [] = take_more xs i x within ∙ ap (λ y. take i xs ++ y ∷ []) at in
-    (λ e. subst (λ l. Contains l name) (sym longer) (there (or_cases _ _ (sym (after name) ∙ e))),
-     λ h. after name ∙ back (Contains-push_cases (take i xs) x name (subst (λ l. Contains l name) longer h))) where
-  there : (bytes_eq x name ≡ true) ⊎ (old name ≡ true) → Contains (take i xs ++ x ∷ []) name
-  there (inl same) = subst (λ y. Contains (take i xs ++ x ∷ []) y) ((bytes_eq-Decides x name).0 same) (Contains-push (take i xs) x)
-  there (inr before) = Contains-append_left (take i xs) (x ∷ []) name ((known name).0 before)
-  back : Contains (take i xs) name ⊎ (x ≡ name) → (bytes_eq x name || old name) ≡ true
-  back (inl before) = or_right (bytes_eq x name) (old name) ((known name).1 before)
-  back (inr same) = or_left (bytes_eq x name) (old name) ((bytes_eq-Decides x name).1 same)
+    let longer : take (i + 1) xs ≡ take i xs ++ x ∷ [] = take_more xs i x within ∙ ap (λ y. take i xs ++ y ∷ []) at in (
+      λ e. subst (λ l. Contains l name) (sym longer) (there (or_cases _ _ (sym (after name) ∙ e))),
+      λ h. after name ∙ back (Contains-push_cases (take i xs) x name (subst (λ l. Contains l name) longer h)),
+    ) where
+      there : (bytes_eq x name ≡ true) ⊎ (old name ≡ true) → Contains (take i xs ++ x ∷ []) name
+      there (inl same) = subst (λ y. Contains (take i xs ++ x ∷ []) y) ((bytes_eq-Decides x name).0 same) (Contains-push (take i xs) x)
+      there (inr before) = Contains-append_left (take i xs) (x ∷ []) name ((known name).0 before)
+
+      back : Contains (take i xs) name ⊎ (x ≡ name) → (bytes_eq x name || old name) ≡ true
+      back (inl before) = or_right (bytes_eq x name) (old name) ((known name).1 before)
+      back (inr same) = or_left (bytes_eq x name) (old name) ((bytes_eq-Decides x name).1 same)
 
 -- ---- the conditions under two ways to say what a field is
 
@@ -124,13 +126,14 @@ module _ (A B : List ℕ → Type 0) (goes : (name : List ℕ) → A name → B 
 
 pub first_class_is : (c : ClassTree) (fields methods : List (List ℕ)) (known : List ℕ → Bool) (b : Bool) → fields ≡ field_names c → methods ≡ method_names c → AllPairs ◌≢◌ fields → AllPairs ◌≢◌ methods
     → ((name : List ℕ) → IsTrue (known name) ↔ Contains fields name) → IsTrue b ↔ MeetsEach (λ name. IsTrue (known name)) c → IsTrue b ↔ IsFirstClass c
-first_class_is c fields methods known b f m differ_fields differ_methods knows meets =
-    (λ e. record {
-        fields = subst (AllPairs ◌≢◌) f differ_fields;
-        methods = subst (AllPairs ◌≢◌) m differ_methods;
-        each = meets_along (λ name. IsTrue (known name)) (Contains (field_names c)) (λ name h. subst (λ l. Contains l name) f ((knows name).0 h)) c (meets.0 e)
-      },
-     λ h. meets.1 (meets_along (Contains (field_names c)) (λ name. IsTrue (known name)) (λ name k. (knows name).1 (subst (λ l. Contains l name) (sym f) k)) c h.each))
+first_class_is c fields methods known b f m differ_fields differ_methods knows meets = (
+  λ e. record {
+    fields = subst (AllPairs ◌≢◌) f differ_fields;
+    methods = subst (AllPairs ◌≢◌) m differ_methods;
+    each = meets_along (λ name. IsTrue (known name)) (Contains (field_names c)) (λ name h. subst (λ l. Contains l name) f ((knows name).0 h)) c (meets.0 e);
+  },
+  λ h. meets.1 (meets_along (Contains (field_names c)) (λ name. IsTrue (known name)) (λ name k. (knows name).1 (subst (λ l. Contains l name) (sym f) k)) c h.each),
+)
 
 pub no_fields : (c : ClassTree) (fields : List (List ℕ)) → fields ≡ field_names c → (AllPairs ◌≢◌ fields → ⊥) → IsTrue false ↔ IsFirstClass c
 no_fields c fields f same = (λ e. cc, λ h. absurd (same (subst (AllPairs ◌≢◌) (sym f) h.fields)))

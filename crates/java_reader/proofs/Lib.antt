@@ -6,3 +6,4 @@ pub mod Sound
 pub mod Complete
 pub mod FormLemmas
 pub mod ReaderLemmas
+pub mod Parts

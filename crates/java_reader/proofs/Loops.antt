@@ -1,7 +1,7 @@
 -- A loop over the tokens ahead beside its count of turns.
 use Rattle.std.proofs.Common.{◌≡◌, ℕ, suc, ◌+◌, ◌-◌, ◌<◌, ◌≤◌, Bool, true, false, List, [], ◌∷◌, ◌++◌, length, refl, ap, ◌∙◌, sym, arith, length-append}
 use Rattle.java_tree.specs.declared.token.Token.{Token}
-use Rattle.java_reader.specs.Reading.{Outcome, Found, Lost, Parser, and_then, many_from, many}
+use Rattle.java_reader.specs.Reading.{Found, Lost, Parser, many_from, many}
 
 -- how many turns are left after some items
 abbrev pub turns_left : List Token → ℕ → ℕ
@@ -46,7 +46,7 @@ module _ {A : Type 0} (goes : List Token → Bool) (item : Parser A) where
             ∙ sym (goes_by (length start - length found) found x ts rest on is)
             ∙ ap (λ n. many_from goes item n found ts) (sym (one_left start found ts go))
             ∙ go.same;
-        bound = omega arith
+        bound = omega arith;
       }
 
   pub many_fails : (start : List Token) (found : List A) (ts : List Token) → Continues start found ts → goes ts ≡ true → item ts ≡ Lost → many goes item start ≡ Lost

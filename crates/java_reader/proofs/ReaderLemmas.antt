@@ -1,11 +1,11 @@
 -- The two laws of the reader over tokens, as its functions need them.
-use Rattle.std.proofs.Common.{◌≡◌, ◌≢◌, List, [], Result, Ok, Err, IfOk, refl, ap, ◌∙◌, sym, subst}
+use Rattle.std.proofs.Common.{◌≡◌, ◌≢◌, List, [], Result, Ok, Err, IfOk, refl, ap, ◌∙◌, sym}
 use Rattle.java_tree.specs.declared.token.Token.{Token}
 use Rattle.java_tree.specs.declared.file.FileTree.{FileTree}
 use Rattle.java_reader.specs.declared.error.ReadError.{ReadError}
 use Rattle.java_reader.specs.declared.error.ReadError.TheVariants as error
 use Rattle.java_reader.specs.Spelling.{Spells}
-use Rattle.java_reader.specs.Reading.{Outcome, Found, Lost, file}
+use Rattle.java_reader.specs.Reading.{Found, Lost, file}
 use Rattle.java_reader.specs.Cursor.{Reads}
 use Rattle.java_reader.specs.Reads.{Gives}
 use Rattle.java_reader.proofs.Sound.{file-sound}

@@ -1,5 +1,5 @@
 -- What the reader finds is spelled by the tokens that it takes.
-use Rattle.std.proofs.Common.{◌≡◌, ◌≢◌, ℕ, zero, suc, ◌+◌, ◌-◌, ◌<◌, ◌≤◌, Bool, true, false, not, cond, List, [], ◌∷◌, ◌++◌, length, take, Option, Some, None, is_some, codes, ◌&&◌, refl, ap, ◌∙◌, sym, subst, arith, rules, inl, inr, append_assoc}
+use Rattle.std.proofs.Common.{◌≡◌, ℕ, zero, suc, ◌<◌, ◌≤◌, Bool, true, false, cond, List, [], ◌∷◌, ◌++◌, length, Option, Some, None, is_some, codes, ◌&&◌, refl, ap, ◌∙◌, sym, subst, arith, inl, inr}
 use Rattle.std.proofs.Math.Seq.{append_snoc}
 use Rattle.std.proofs.lemmas.List.{append-nil}
 use Rattle.std.specs.Str.{bytes_eq}
@@ -27,10 +27,10 @@ use Rattle.java_tree.specs.declared.member.MemberTree.TheVariants as tree
 use Rattle.java_tree.specs.declared.file.TypeKind.TheVariants as sort
 use Rattle.java_tree.specs.declared.file.ClassTree.{ClassTree}
 use Rattle.java_tree.specs.declared.file.FileTree.{FileTree}
-use Rattle.java_reader.specs.Phrase.{Phrase, Nothing, ◌⨾◌, Mark, Sign, Spelled, Kept, Each, word_of}
+use Rattle.java_reader.specs.Phrase.{Phrase, ◌⨾◌, Mark, Sign, Spelled, Each}
 use Rattle.java_reader.specs.Spelling.{Value, AssignSign, Assign, assignment, Return, return_of, Last, Body, block_of, Held, Result, MethodPhrase, FieldPhrase, Member, lock_of, file_of, Lock, Locks, Class, Spells}
-use Rattle.java_reader.specs.Reading.{Outcome, Found, Lost, Parser, and_then, pure, fail, same_kind, next_kind, sees, sign, word, many_from, many, value, value_by, assign_op, assign_op_by, sign_of, assign, assigns, return_item, ended, body, held, held_by, result_type, result_by, field, method, member, member_by, is_plain, members, goes_on, region_lock, lock, locks, locks_by, class_body, class_tree, before, end, file}
-use Rattle.java_reader.proofs.Phrases.{and_then-some, pure-is, sign-sound, word-sound, Spent, spent-nothing, spent-first, spent-one, spent-then, spent-before, shorter-first, not_longer, mark-sign}
+use Rattle.java_reader.specs.Reading.{Found, Parser, and_then, pure, fail, next_kind, sees, sign, word, many_from, many, value, value_by, assign_op, assign_op_by, sign_of, assign, assigns, return_item, ended, body, held, held_by, result_type, result_by, field, method, member, member_by, is_plain, members, goes_on, region_lock, lock, locks, locks_by, class_body, class_tree, before, end, file}
+use Rattle.java_reader.proofs.Phrases.{and_then-some, pure-is, sign-sound, word-sound, Spent, spent-nothing, spent-one, spent-then, spent-before, shorter-first, not_longer, mark-sign}
 
 -- ---- items
 
@@ -99,11 +99,23 @@ assign-sound it ts rest e =
     let (at, t3, is3, e3) = and_then-some (sign (sign_of which) t2) _ it rest e2 in
     let (given, t4, is4, e4) = and_then-some (value t3) _ it rest e3 in
     let (semicolon, t5, is5, e5) = and_then-some (sign k.Semicolon t4) _ it rest e4 in
-    pure-is (λ y r. Assign y ts r) (assignment target which at given semicolon) it t5 rest e5
-    (target, which, at, given, semicolon, refl {a = assignment target which at given semicolon},
-     (t1, word-sound k.Name ts t1 target is1,
-      (t3, assign_sign-sound which at t1 t2 t3 is2 is3,
-       (t4, value-sound given t3 t4 is4, sign-sound k.Semicolon t4 t5 semicolon is5))))
+    pure-is (λ y r. Assign y ts r) (assignment target which at given semicolon) it t5 rest e5 (
+      target,
+      which,
+      at,
+      given,
+      semicolon,
+      refl {a = assignment target which at given semicolon},
+      (
+        t1,
+        word-sound k.Name ts t1 target is1,
+        (
+          t3,
+          assign_sign-sound which at t1 t2 t3 is2 is3,
+          (t4, value-sound given t3 t4 is4, sign-sound k.Semicolon t4 t5 semicolon is5),
+        ),
+      ),
+    )
 
 pub return-sound : (it : BlockItem) (ts rest : List Token) → return_item ts ≡ Found it rest → Return it ts rest
 unfolding return_item
@@ -111,10 +123,17 @@ return-sound it ts rest e =
     let (at, t1, is1, e1) = and_then-some (sign k.Return ts) _ it rest e in
     let (given, t2, is2, e2) = and_then-some (value t1) _ it rest e1 in
     let (semicolon, t3, is3, e3) = and_then-some (sign k.Semicolon t2) _ it rest e2 in
-    pure-is (λ y r. Return y ts r) (return_of at given semicolon) it t3 rest e3
-    (at, given, semicolon, refl,
-     (t1, sign-sound k.Return ts t1 at is1,
-      (t2, value-sound given t1 t2 is2, sign-sound k.Semicolon t2 t3 semicolon is3)))
+    pure-is (λ y r. Return y ts r) (return_of at given semicolon) it t3 rest e3 (
+      at,
+      given,
+      semicolon,
+      refl,
+      (
+        t1,
+        sign-sound k.Return ts t1 at is1,
+        (t2, value-sound given t1 t2 is2, sign-sound k.Semicolon t2 t3 semicolon is3),
+      ),
+    )
 
 -- ---- which tokens they take
 
@@ -179,11 +198,22 @@ body-sound result b ts rest e =
     let (items, t3, is3, e3) = and_then-some (ended (is_some result) found t2) _ b rest e2 in
     let (closing, t4, is4, e4) = and_then-some (sign k.RBrace t3) _ b rest e3 in
     let (last, joined, ends) = ended-sound result found items t2 t3 is3 in
-    pure-is (λ y r. Body result y ts r) (block_of opening items closing) b t4 rest e4
-    (opening, found, last, closing, ap (λ l. block_of opening l closing) joined,
-     (t1, sign-sound k.LBrace ts t1 opening is1,
-      (t2, assigns-sound found t1 t2 is2,
-       (t3, ends, sign-sound k.RBrace t3 t4 closing is4))))
+    pure-is (λ y r. Body result y ts r) (block_of opening items closing) b t4 rest e4 (
+      opening,
+      found,
+      last,
+      closing,
+      ap (λ l. block_of opening l closing) joined,
+      (
+        t1,
+        sign-sound k.LBrace ts t1 opening is1,
+        (
+          t2,
+          assigns-sound found t1 t2 is2,
+          (t3, ends, sign-sound k.RBrace t3 t4 closing is4),
+        ),
+      ),
+    )
 
 spent-last : (result : Option Ty) (last : List BlockItem) (ts rest : List Token) → Last result last ts rest → Spent ts rest
 spent-last None [] ts rest l = spent-nothing ts rest l
@@ -196,7 +226,7 @@ spent-body : (result : Option Ty) (b : Block) (ts rest : List Token) → Body re
 spent-body result b ts rest (opening, found, last, closing, is, (t1, s, (t2, each, (t3, ends, z)))) =
     spent-then ts t1 rest (spent-sign k.LBrace opening ts t1 s)
     (spent-then t1 t2 rest (spent-each Assign found t1 t2 spent-assign each)
-     (spent-then t2 t3 rest (spent-last result last t2 t3 ends) (spent-sign k.RBrace closing t3 rest z)))
+    (spent-then t2 t3 rest (spent-last result last t2 t3 ends) (spent-sign k.RBrace closing t3 rest z)))
 
 -- ---- members
 
@@ -260,7 +290,7 @@ method-sound start t1 t2 t3 rest mods result name m h r spelled e =
     let right : Mark k.RParen t4 t5 = mark-sign k.RParen closing t4 t5 (sign-sound k.RParen t4 t5 closing is5) in
     let inner : Body result block t5 t6 = body-sound result block t5 t6 is6 in
     let spent : Spent start t6 = spent-then start t1 t6 (spent-held mods start t1 h) (spent-then t1 t2 t6 (spent-result result t1 t2 r) (spent-then t2 t3 t6 (spent-word k.Name name t2 t3 spelled)
-        (spent-then t3 t4 t6 (spent-mark k.LParen t3 t4 left) (spent-then t4 t5 t6 (spent-mark k.RParen t4 t5 right) (spent-body result block t5 t6 inner))))) in
+    (spent-then t3 t4 t6 (spent-mark k.LParen t3 t4 left) (spent-then t4 t5 t6 (spent-mark k.RParen t4 t5 right) (spent-body result block t5 t6 inner))))) in
     pure-is (λ y r. Member y start r) (tree.Method (record { mods = mods; result = result; name = name; params = []; throws = []; body = block; tokens = before start t6 })) m t6 rest e6
     (refl, refl, ((t1, h, (t2, r, (t3, spelled, (t4, left, (t5, right, inner))))), spent-before start t6 spent))
 
@@ -325,12 +355,28 @@ lock-sound l ts rest e =
     let (text, t4, is4, e4) = and_then-some (word k.StrLiteral t3) _ l rest e3 in
     let (closing, t5, is5, e5) = and_then-some (sign k.RParen t4) _ l rest e4 in
     let (spelled, named) = region_lock-sound name t1 t2 is2 in
-    pure-is (λ y r. Lock y ts r) (lock_of at name opening text closing) l t5 rest e5
-    (at, name, opening, text, closing, refl {a = lock_of at name opening text closing}, named,
-     (t1, sign-sound k.At ts t1 at is1,
-      (t2, spelled,
-       (t3, sign-sound k.LParen t2 t3 opening is3,
-        (t4, word-sound k.StrLiteral t3 t4 text is4, sign-sound k.RParen t4 t5 closing is5)))))
+    pure-is (λ y r. Lock y ts r) (lock_of at name opening text closing) l t5 rest e5 (
+      at,
+      name,
+      opening,
+      text,
+      closing,
+      refl {a = lock_of at name opening text closing},
+      named,
+      (
+        t1,
+        sign-sound k.At ts t1 at is1,
+        (
+          t2,
+          spelled,
+          (
+            t3,
+            sign-sound k.LParen t2 t3 opening is3,
+            (t4, word-sound k.StrLiteral t3 t4 text is4, sign-sound k.RParen t4 t5 closing is5),
+          ),
+        ),
+      ),
+    )
 
 locks_by-sound : (b : Bool) (mods : List Mod) (ts rest : List Token) → locks_by b ts ≡ Found mods rest → Locks mods ts rest
 locks_by-sound true mods ts rest e =
@@ -345,7 +391,7 @@ locks-sound mods ts rest e = locks_by-sound (sees k.At ts) mods ts rest e
 spent-lock : (l : Mod) (ts rest : List Token) → Lock l ts rest → Spent ts rest
 spent-lock l ts rest (at, name, opening, text, closing, is, named, (t1, a, (t2, b, (t3, c, (t4, d, z))))) =
     spent-then ts t1 rest (spent-sign k.At at ts t1 a) (spent-then t1 t2 rest (spent-word k.Name name t1 t2 b) (spent-then t2 t3 rest (spent-sign k.LParen opening t2 t3 c)
-        (spent-then t3 t4 rest (spent-word k.StrLiteral text t3 t4 d) (spent-sign k.RParen closing t4 rest z))))
+    (spent-then t3 t4 rest (spent-word k.StrLiteral text t3 t4 d) (spent-sign k.RParen closing t4 rest z))))
 
 spent-locks : (mods : List Mod) (ts rest : List Token) → Locks mods ts rest → Spent ts rest
 spent-locks [] ts rest l = spent-nothing ts rest l
@@ -362,9 +408,11 @@ class_body-sound xs ts rest e =
     let (opening, t1, is1, e1) = and_then-some (sign k.LBrace ts) _ xs rest e in
     let (found, t2, is2, e2) = and_then-some (members t1) _ xs rest e1 in
     let (closing, t3, is3, e3) = and_then-some (sign k.RBrace t2) _ xs rest e2 in
-    pure-is (λ y r. (Mark k.LBrace ⨾ Each Member y ⨾ Mark k.RBrace) ts r) found xs t3 rest e3
-    (t1, mark-sign k.LBrace opening ts t1 (sign-sound k.LBrace ts t1 opening is1),
-     (t2, members-sound found t1 t2 is2, mark-sign k.RBrace closing t2 t3 (sign-sound k.RBrace t2 t3 closing is3)))
+    pure-is (λ y r. (Mark k.LBrace ⨾ Each Member y ⨾ Mark k.RBrace) ts r) found xs t3 rest e3 (
+      t1,
+      mark-sign k.LBrace opening ts t1 (sign-sound k.LBrace ts t1 opening is1),
+      (t2, members-sound found t1 t2 is2, mark-sign k.RBrace closing t2 t3 (sign-sound k.RBrace t2 t3 closing is3)),
+    )
 
 class-sound : (c : ClassTree) (ts rest : List Token) → class_tree ts ≡ Found c rest → Class c ts rest
 unfolding class_tree

@@ -5,3 +5,4 @@ pub mod Cursor
 pub mod FirstForm
 pub mod Names
 pub mod Reads
+pub mod Places

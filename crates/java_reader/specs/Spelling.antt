@@ -13,7 +13,7 @@ use Rattle.java_tree.specs.declared.stmt.Stmt.TheVariants as stmt
 use Rattle.java_tree.specs.declared.stmt.BlockItem.{BlockItem}
 use Rattle.java_tree.specs.declared.stmt.BlockItem.TheVariants as item
 use Rattle.java_tree.specs.declared.stmt.Block.{Block, roll-Block}
-use Rattle.java_tree.specs.declared.member.Annot.{Annot, roll-Annot}
+use Rattle.java_tree.specs.declared.member.Annot.{roll-Annot}
 use Rattle.java_tree.specs.declared.member.Elements.TheVariants as elements
 use Rattle.java_tree.specs.declared.member.Elem.TheVariants as elem
 use Rattle.java_tree.specs.declared.member.Mod.{Mod}

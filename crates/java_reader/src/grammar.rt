@@ -66,8 +66,8 @@ fn return_item(alloc: Global, tokens: &mut Tokens) -> Result<BlockItem, ReadErro
 {
     let at = tokens.sign(Kind::Return)?;
     let value = value(alloc, tokens)?;
-    let semicolon = tokens.sign(Kind::Semicolon)?;
-    Ok(BlockItem::Stmt(Stmt::Return(at, Some(value), semicolon)))
+    let end = tokens.sign(Kind::Semicolon)?;
+    Ok(BlockItem::Stmt(Stmt::Return(at, Some(value), end)))
 }
 
 #[tactic(auto, unfolding(crate::specs::Reading::held))]

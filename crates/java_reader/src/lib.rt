@@ -9,9 +9,11 @@ mod laws;
 mod line;
 mod names;
 mod reader;
+#[cfg(test)]
+mod tests;
 mod tokens;
 
 pub use error::ReadError;
-pub use laws::one_tree;
+pub use laws::{one_tree, parts_follow};
 pub use line::line_of;
 pub use reader::read_file;

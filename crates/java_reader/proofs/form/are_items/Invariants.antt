@@ -1,4 +1,4 @@
-use Rattle.std.proofs.Common.{◌≡◌, ℕ, List, ◌<◌, IsTrue, get_or}
+use Rattle.std.proofs.Common.{ℕ, ◌<◌, IsTrue, get_or}
 use Rattle.java_tree.specs.declared.stmt.BlockItem.{BlockItem}
 use Rattle.java_reader.specs.FirstForm.{IsItem}
 use Rattle.java_reader.specs.Names.{knows}

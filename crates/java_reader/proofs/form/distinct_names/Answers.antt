@@ -1,4 +1,4 @@
-use Rattle.std.proofs.Common.{◌≡◌, ◌≢◌, ◌↔◌, ◌<◌, ◌≤◌, ℕ, List, length, IsTrue, AllPairs, Contains, subst}
+use Rattle.std.proofs.Common.{◌≢◌, ◌↔◌, ◌<◌, ◌≤◌, ℕ, List, length, IsTrue, AllPairs, Contains, subst}
 use Rattle.std.proofs.lemmas.List.{take_all}
 use Rattle.java_reader.specs.Names.{now_of, knows}
 use Rattle.java_reader.proofs.Token.{on, off}
@@ -16,7 +16,7 @@ loop-name-preserved c =
     record {
       distinct = differ_more _ _ _ within (now_at _ _ _ _ c.loop-name-test.true) c.loop-name.invariant.distinct
           (λ h. clash _ ((c.loop-name.invariant.known _).1 h) (off _ _ c.in_ok-add.ensures.added c.if-not-branch.false));
-      known = known_more _ _ _ (knows c.loop-name.set) (knows c.add.new.self) within (now_at _ _ _ _ c.loop-name-test.true) c.in_ok-add.ensures.after c.loop-name.invariant.known
+      known = known_more _ _ _ (knows c.loop-name.set) (knows c.add.new.self) within (now_at _ _ _ _ c.loop-name-test.true) c.in_ok-add.ensures.after c.loop-name.invariant.known;
     }
 
 pub returns : goal.returns

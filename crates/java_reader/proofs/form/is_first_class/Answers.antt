@@ -1,4 +1,4 @@
-use Rattle.std.proofs.Common.{◌≡◌, ap, ◌∙◌}
+use Rattle.std.proofs.Common.{ap, ◌∙◌}
 use Rattle.std.specs.List.{filter_map}
 use Rattle.java_reader.specs.Names.{knows, now_of}
 use Rattle.java_reader.specs.FirstForm.{field_name, method_name}

@@ -1,8 +1,6 @@
-use Rattle.std.proofs.Common.{◌≡◌, ◌<◌, length, refl, ◌∙◌, sym, rules, arith}
-use Rattle.std.proofs.lemmas.Grind.{common_steps}
+use Rattle.std.proofs.Common.{refl, ◌∙◌, sym, rules}
 use Rattle.java_tree.specs.declared.kind.Kind.TheVariants as k
 use Rattle.java_reader.specs.Reading.{sees, assign, assigns}
-use Rattle.java_reader.specs.Cursor.{ahead}
 use Rattle.java_reader.proofs.Loops.{many_begins, many_goes, many_fails, many_ends}
 use Rattle.java_reader.proofs.Sound.{assign-sound, shorter-assign}
 use Rattle.java_reader.proofs.grammar.assigns.Goals as goal
@@ -22,7 +20,7 @@ more-smaller c = shorter-assign _ _ _ (assign-sound _ _ _ c.in_ok-assign.ensures
 pub more-preserved : goal.more-preserved
 more-preserved c = record {
   reads = many_goes (sees k.Name) assign _ _ _ _ _ _ c.more.invariant.reads (sym c.sees.ensures ∙ c.more-test.true) c.in_ok-assign.ensures.0 (shorter-assign _ _ _ (assign-sound _ _ _ c.in_ok-assign.ensures.0)) c.in_ok-push.ensures.ok;
-  moved = c.in_ok-assign.ensures.1 ∙ c.more.invariant.moved
+  moved = c.in_ok-assign.ensures.1 ∙ c.more.invariant.moved;
 }
 
 pub returns : goal.returns

@@ -8,7 +8,7 @@ use Rattle.java_reader.proofs.grammar.assigns.Given as goal
 abbrev pub invariant-more : goal.invariant-more
 invariant-more l = record {
   reads : Continues (sees k.Name) assign (ahead l.initial.tokens) l.items (ahead l.tokens);
-  moved : from_start l.tokens ≡ from_start l.initial.tokens
+  moved : from_start l.tokens ≡ from_start l.initial.tokens;
 }
 
 abbrev pub decreases-more : goal.decreases-more

@@ -1,6 +1,5 @@
-use Rattle.std.proofs.Common.{◌≡◌, ◌<◌, length, refl, not, true, ap, ◌∙◌, sym, rules, arith}
+use Rattle.std.proofs.Common.{not, ap, ◌∙◌, sym, rules}
 use Rattle.java_reader.specs.Reading.{goes_on, member, members}
-use Rattle.java_reader.specs.Cursor.{ahead}
 use Rattle.java_reader.proofs.Loops.{many_begins, many_goes, many_fails, many_ends}
 use Rattle.java_reader.proofs.Sound.{member-sound, shorter-member}
 use Rattle.java_reader.proofs.grammar.members.Goals as goal
@@ -21,7 +20,7 @@ pub more-preserved : goal.more-preserved
 more-preserved c = record {
   reads = many_goes goes_on member _ _ _ _ _ _ c.more.invariant.reads (ap not (sym c.sees.ensures ∙ c.more-test.true)) c.in_ok-member.ensures.reads
       (shorter-member _ _ _ (member-sound _ _ _ c.in_ok-member.ensures.reads)) c.in_ok-push.ensures.ok;
-  fresh = c.in_ok-member.ensures.fresh
+  fresh = c.in_ok-member.ensures.fresh;
 }
 
 pub returns-clause-reads : goal.returns-clause-reads

@@ -7,7 +7,7 @@ use Rattle.java_reader.proofs.grammar.members.Given as goal
 abbrev pub invariant-more : goal.invariant-more
 invariant-more l = record {
   reads : Continues goes_on member (ahead l.initial.tokens) l.found (ahead l.tokens);
-  fresh : l.tokens.taken ≡ []
+  fresh : l.tokens.taken ≡ [];
 }
 
 abbrev pub decreases-more : goal.decreases-more

@@ -1,4 +1,4 @@
-use Rattle.std.proofs.Common.{◌≡◌, List, subst}
+use Rattle.std.proofs.Common.{List, subst}
 use Rattle.java_tree.specs.declared.token.Token.{Token}
 use Rattle.java_reader.specs.Spelling.{Spells}
 use Rattle.java_reader.proofs.ReaderLemmas.{one_tree}

@@ -1,4 +1,4 @@
-use Rattle.std.proofs.Common.{◌≡◌, sym, subst}
+use Rattle.std.proofs.Common.{sym, subst}
 use Rattle.java_reader.specs.FirstForm.{IsFirstForm}
 use Rattle.java_reader.proofs.FormLemmas.{clash}
 use Rattle.java_reader.proofs.reader.read_tokens.Goals as goal
