@@ -1,0 +1,11 @@
+//! The regions of a class: which there are, which region a field is in, and which region is under
+//! which. It knows nothing of Java's text nor of locks.
+#![tactic(auto)]
+
+mod climb;
+mod decl;
+mod fault;
+mod mark;
+
+pub use decl::{FieldPut, RegionDecl};
+pub use fault::RegionError;
