@@ -1,2 +1,5 @@
 pub mod Chains
+pub mod Faults
 pub mod Marks
+pub mod Names
+pub mod Regions

@@ -80,3 +80,10 @@ pub record IsSettled (marks : List Mark) : Type 0 where
 -- what was begun stays begun
 pub record StaysBegun (old new : List Mark) : Type 0 where
   pub stays : (k : ℕ) → mark_at old k ≢ mark.Fresh → mark_at new k ≢ mark.Fresh
+
+-- the marks of all regions are settled, and none is fresh
+pub record Known (parents : List (Option ℕ)) (marks : List Mark) (next : ℕ) : Type 0 where
+  pub marked : Marked parents marks next
+  pub lost : LostClosed parents marks
+  pub settled : IsSettled marks
+  pub begun : (k : ℕ) → k < length marks → mark_at marks k ≢ mark.Fresh

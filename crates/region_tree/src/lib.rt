@@ -2,10 +2,12 @@
 //! which. It knows nothing of Java's text nor of locks.
 #![tactic(auto)]
 
+mod check;
 mod climb;
 mod decl;
 mod fault;
 mod mark;
+mod names;
 
 pub use decl::{FieldPut, RegionDecl};
 pub use fault::RegionError;
