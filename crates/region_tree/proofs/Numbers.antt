@@ -2,15 +2,16 @@
 use Rattle.std.proofs.Common.{◌≡◌, ◌≢◌, ℕ, zero, suc, ◌+◌, ◌<◌, ◌≤◌, List, [], ◌∷◌, ◌++◌, length, get_or, take, map, refl, sym, ◌∙◌, ap, subst, inl, inr, arith, ◌⊎◌, Bool, true, false, cond, rules}
 use Rattle.std.specs.Prelude.{Option, Some, None, codes, option_and_then}
 use Rattle.std.specs.List.{position_from, slice_get}
-use Rattle.std.specs.Option.{option_or, option_map}
+use Rattle.std.specs.Option.{option_or, option_map, option_eq}
+use mathlib.Core.Bool.{beq, not}
 use Rattle.std.specs.Str.{bytes_eq}
 use Rattle.std.specs.BTreeMap.{BTreeMap, Updates, IsEmpty, is_at}
 use Rattle.std.specs.Ordering.{nat_cmp}
 use Rattle.std.specs.Cmp.Lexicographic.{slice_cmp}
 use Rattle.std.proofs.lemmas.List.{take_more, map-append}
-use Rattle.std.proofs.lemmas.Option.{slice_get-map}
+use Rattle.std.proofs.lemmas.Option.{slice_get-map, slice_get-get_or}
 use Rattle.std.proofs.lemmas.Map.Text.{is_eq-slice_cmp}
-use Rattle.std.proofs.Common.{add-zero, ◌-◌}
+use Rattle.std.proofs.Common.{add-zero, ◌-◌, ◌==◌}
 use Rattle.std.proofs.lemmas.Slice.Eq.{bytes_eq-Decides}
 use Rattle.std.specs.Ordering.{is_eq}
 use Rattle.std.specs.Map.{lookup}
@@ -147,10 +148,15 @@ pub kind_some : (numbers : BTreeMap (List ℕ) ℕ) (declared : List RegionDecl)
 kind_some numbers declared name is_static found k n e some =
     kind_found numbers declared name is_static n ∙ ap (option_and_then (slice_get (region_kinds declared))) (sym e ∙ some)
 
-pub kind_at : (declared : List RegionDecl) (n : ℕ) → n ≢ 0 → n ≢ 1 → slice_get (region_kinds declared) n ≡ option_map decl_kind (slice_get declared (n - 2))
-kind_at declared zero a b = absurd (a refl)
-kind_at declared (suc zero) a b = absurd (b refl)
-kind_at declared (suc (suc n)) a b = slice_get-map decl_kind declared n ∙ ap (λ (z : ℕ). option_map decl_kind (slice_get declared z)) (omega arith)
+get_past : {X : Type 0} (xs : List X) (k : ℕ) → length xs ≤ k → slice_get xs k ≡ None
+get_past [] k past = refl
+get_past (x ∷ xs) zero past = absurd (omega arith)
+get_past (x ∷ xs) (suc k) past = get_past xs k (omega arith)
+
+kind_at : (declared : List RegionDecl) (n : ℕ) → 2 ≤ n → slice_get (region_kinds declared) n ≡ option_map decl_kind (slice_get declared (n - 2))
+kind_at declared zero a = absurd (omega arith)
+kind_at declared (suc zero) a = absurd (omega arith)
+kind_at declared (suc (suc n)) a = slice_get-map decl_kind declared n ∙ ap (λ (z : ℕ). option_map decl_kind (slice_get declared z)) (omega arith)
 
 -- the parents with one more
 pub parents_more : (declared : List RegionDecl) (i : ℕ) (d : RegionDecl) (parents : List (Option ℕ)) → i < length declared
@@ -174,6 +180,41 @@ pub none_of : (o : Option ℕ) → is_some o ≡ false → o ≡ None
 none_of None e = refl
 none_of (Some x) e = absurd (cc)
 
-pub kind_some_at : (declared : List RegionDecl) (n : ℕ) (d : RegionDecl) → n ≢ 0 → n ≢ 1 → Some d ≡ slice_get declared (n - 2)
+pub kind_some_at : (declared : List RegionDecl) (n : ℕ) (d : RegionDecl) → 2 ≤ n → n - 2 < length declared → d ≡ get_or declared (n - 2) d
     → Some d.is_static ≡ slice_get (region_kinds declared) n
-kind_some_at declared n d a b e = ap (option_map decl_kind) e ∙ sym (kind_at declared n a b)
+kind_some_at declared n d low within e =
+    ap (λ (z : RegionDecl). Some z.is_static) e ∙ sym (ap (option_map decl_kind) (slice_get-get_or declared (n - 2) d within)) ∙ sym (kind_at declared n low)
+
+pub kind_none_at : (declared : List RegionDecl) (n : ℕ) → 2 ≤ n → length declared ≤ n - 2 → None ≡ slice_get (region_kinds declared) n
+kind_none_at declared n low past = ap (option_map decl_kind) (sym (get_past declared (n - 2) past)) ∙ sym (kind_at declared n low)
+
+pub kind_root_at : (declared : List RegionDecl) (n : ℕ) → n < 2 → Some (n == 1) ≡ slice_get (region_kinds declared) n
+kind_root_at declared zero low = refl
+kind_root_at declared (suc zero) low = refl
+kind_root_at declared (suc (suc n)) low = absurd (omega arith)
+
+-- an element of a front of a list
+pub get_take : {X : Type 0} (xs : List X) (i k : ℕ) (x : X) → slice_get (take i xs) k ≡ Some x → (k < i) × (slice_get xs k ≡ Some x)
+get_take [] zero k x e = absurd (cc)
+get_take [] (suc i) k x e = absurd (cc)
+get_take (y ∷ xs) zero k x e = absurd (cc)
+get_take (y ∷ xs) (suc i) zero x e = (omega arith, e)
+get_take (y ∷ xs) (suc i) (suc k) x e = let r = get_take xs i k x e in (omega (arith, r.0), r.1)
+
+pub none_if : {X : Type 0} (o : Option X) → ((x : X) → o ≡ Some x → ⊥) → o ≡ None
+none_if None h = refl
+none_if (Some x) h = absurd (h x refl)
+
+pub kind_differs : (o : Option Bool) (s : Bool) → true ≡ not (option_eq beq o (Some s)) → o ≡ Some s → ⊥
+kind_differs None s e is = cc
+kind_differs (Some true) true e is = cc
+kind_differs (Some true) false e is = cc
+kind_differs (Some false) true e is = cc
+kind_differs (Some false) false e is = cc
+
+pub kind_agrees : (o : Option Bool) (s : Bool) → false ≡ not (option_eq beq o (Some s)) → o ≡ Some s
+kind_agrees None s e = absurd (cc)
+kind_agrees (Some true) true e = refl
+kind_agrees (Some true) false e = absurd (cc)
+kind_agrees (Some false) true e = absurd (cc)
+kind_agrees (Some false) false e = refl

@@ -63,6 +63,15 @@ IsDeclFault declared (fault.Cycle name) = FirstDeclFault declared (fault.Cycle n
 IsDeclFault declared (fault.FieldRegion name) = ⊥
 IsDeclFault declared fault.OutOfMemory = Unit {0}
 
+-- the fault of a field
+abbrev pub PutFault : List RegionDecl → FieldPut → RegionError → Type 0
+PutFault declared put (fault.Repeated name) = ⊥
+PutFault declared put (fault.UnknownParent name) = ⊥
+PutFault declared put (fault.Mixed name) = ⊥
+PutFault declared put (fault.Cycle name) = ⊥
+PutFault declared put (fault.FieldRegion name) = (name ≡ put.field) × ¬ (IsPlaced declared put)
+PutFault declared put fault.OutOfMemory = Unit {0}
+
 -- the first faulty field has this name
 abbrev pub FirstFieldFault : List RegionDecl → List FieldPut → List ℕ → Type 0
 FirstFieldFault declared puts name =

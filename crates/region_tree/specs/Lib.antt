@@ -3,3 +3,4 @@ pub mod Faults
 pub mod Marks
 pub mod Names
 pub mod Regions
+pub mod Tree

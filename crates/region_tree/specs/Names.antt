@@ -6,7 +6,8 @@ use Rattle.std.specs.Cmp.Lexicographic.{slice_cmp}
 use Rattle.std.specs.Str.{bytes_eq}
 use Rattle.std.specs.BTreeMap.{BTreeMap, get}
 use Rattle.region_tree.specs.declared.decl.RegionDecl.{RegionDecl}
-use Rattle.region_tree.specs.Regions.{number_of}
+use Rattle.region_tree.specs.declared.decl.FieldPut.{FieldPut}
+use Rattle.region_tree.specs.Regions.{number_of, place_of}
 
 -- the number that the map has at the name
 abbrev pub number_at : BTreeMap (List ℕ) ℕ → List ℕ → Option ℕ
@@ -28,3 +29,7 @@ root_number true = 1
 abbrev pub number_found : BTreeMap (List ℕ) ℕ → Option (List ℕ) → Bool → Option ℕ
 number_found numbers None is_static = Some (root_number is_static)
 number_found numbers (Some name) is_static = number_at numbers name
+
+-- the map has the regions of the fields
+pub record Places (places : BTreeMap (List ℕ) ℕ) (declared : List RegionDecl) (puts : List FieldPut) : Type 0 where
+  pub placed : (field : List ℕ) → number_at places field ≡ place_of declared puts field

@@ -140,6 +140,20 @@ impl Climber {
         Ok(climber)
     }
 
+    /// The parents, and what is known of each region.
+    pub(crate) fn into_parts(self) -> (Vec<Option<usize>>, Vec<Mark>)
+        ensures parents { result.0 ≡ self.parents }
+        ensures marks { result.1 ≡ self.marks }
+    {
+        let Climber {
+            parents,
+            marks,
+            path: _,
+            next: _,
+        } = self;
+        (parents, marks)
+    }
+
     /// Whether a chain of parents leads from the region to a root.
     pub(crate) fn is_rooted(&self, region: usize) -> bool
         requires known { Known self.now.parents.items self.now.marks.items self.now.next }

@@ -8,6 +8,9 @@ mod decl;
 mod fault;
 mod mark;
 mod names;
+mod place;
+mod tree;
 
 pub use decl::{FieldPut, RegionDecl};
 pub use fault::RegionError;
+pub use tree::{RegionId, RegionTree};

@@ -52,17 +52,14 @@ pub(crate) fn number_written(
     }
 }
 
-fn kind_of_number(declared: &[RegionDecl], number: usize) -> Option<bool>
+pub(crate) fn kind_of_number(declared: &[RegionDecl], number: usize) -> Option<bool>
     ensures { result ≡ slice_get (region_kinds declared.now) number }
 {
-    match number {
-        0 => Some(false),
-        1 => Some(true),
-        _ => {
-            let decl = declared.get(number - 2)?;
-            Some(decl.is_static)
-        }
+    if number < 2 {
+        return Some(number == 1);
     }
+    let decl = declared.get(number - 2)?;
+    Some(decl.is_static)
 }
 
 // Whether the region that is written is static, where there is one.
