@@ -1,6 +1,6 @@
 -- What settled marks say of chains.
-use Rattle.std.proofs.Common.{◌≡◌, ◌≢◌, ℕ, zero, suc, ◌+◌, ◌<◌, ◌≤◌, List, [], ◌∷◌, ◌++◌, length, get_or, refl, sym, ◌∙◌, ap, subst, inl, inr, arith, ◌⊎◌, sum_by, replicate}
-use Rattle.std.specs.Prelude.{Option, Some, None}
+use Rattle.std.proofs.Common.{◌≡◌, ◌≢◌, ℕ, zero, suc, ◌+◌, ◌<◌, ◌≤◌, List, [], ◌∷◌, ◌++◌, length, get_or, refl, sym, ◌∙◌, ap, subst, inl, inr, arith, ◌⊎◌, sum_by, replicate, rules, eqb-true, eq-eqb}
+use Rattle.std.specs.Prelude.{Option, Some, None, IsTrue, ◌==◌}
 use Rattle.std.proofs.Math.ListN.{set, length-set}
 use Rattle.std.proofs.lemmas.Grind.{common_steps, elements}
 use Rattle.std.proofs.lemmas.List.Sums.{sum_by-set}
@@ -117,4 +117,17 @@ rooted_falls parents marks next k x known within low rooted p =
         let up : rank_of (mark_at marks x) ≡ a.1 = ap (λ (z : ℕ). rank_of (mark_at marks z)) (sym same) ∙ ap rank_of a.3 in
         let here : rank_of (mark_at marks k) ≡ r.0 = ap rank_of r.1 in
         omega (arith, up, here, a.4))
+    ]
+
+-- at the end of a climb to the height of b
+pub from_goal : (parents : List (Option ℕ)) (a b : ℕ) → IsTrue (a == b) → IsUnder parents a b
+from_goal parents a b same = subst (λ (z : ℕ). IsUnder parents a z) (eqb-true a b same) (under_same parents a)
+
+pub at_goal : (parents : List (Option ℕ)) (marks : List Mark) (a b : ℕ)
+    → ((k x : ℕ) → parent_at parents k ≡ Some x → rank_of (mark_at marks x) < rank_of (mark_at marks k))
+    → rank_of (mark_at marks a) ≤ rank_of (mark_at marks b) → IsUnder parents a b → IsTrue (a == b)
+at_goal parents marks a b falls low u =
+    elim (under_falls parents (λ z. rank_of (mark_at marks z)) a b falls u) [
+      inl same ↦ eq-eqb a b same
+    | inr less ↦ absurd (omega arith)
     ]

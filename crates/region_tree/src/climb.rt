@@ -142,8 +142,8 @@ impl Climber {
 
     /// The parents, and what is known of each region.
     pub(crate) fn into_parts(self) -> (Vec<Option<usize>>, Vec<Mark>)
-        ensures parents { result.0 ≡ self.parents }
-        ensures marks { result.1 ≡ self.marks }
+        ensures parents { result.0.items ≡ self.parents.items }
+        ensures marks { result.1.items ≡ self.marks.items }
     {
         let Climber {
             parents,

@@ -2,6 +2,7 @@
 //! which. It knows nothing of Java's text nor of locks.
 #![tactic(auto)]
 
+mod make;
 mod check;
 mod climb;
 mod decl;
@@ -11,6 +12,7 @@ mod names;
 mod place;
 mod tree;
 
+pub use make::build;
 pub use decl::{FieldPut, RegionDecl};
 pub use fault::RegionError;
 pub use tree::{RegionId, RegionTree};
