@@ -1,5 +1,5 @@
 -- What a tree that is built keeps.
-use Rattle.std.proofs.Common.{◌≡◌, ◌≢◌, ℕ, zero, suc, ◌+◌, ◌-◌, ◌<◌, ◌≤◌, List, [], ◌∷◌, ◌++◌, length, get_or, map, refl, sym, ◌∙◌, ap, subst, inl, inr, arith, ◌⊎◌}
+use Rattle.std.proofs.Common.{◌≡◌, ℕ, zero, suc, ◌+◌, ◌<◌, List, [], ◌∷◌, length, get_or, map, refl, sym, ◌∙◌, ap, subst, arith}
 use Rattle.std.specs.Prelude.{Option, Some, None, option_and_then, find}
 use Rattle.std.specs.List.{slice_get}
 use Rattle.std.specs.Str.{bytes_eq}
@@ -10,7 +10,7 @@ use Rattle.region_tree.specs.declared.decl.RegionDecl.{RegionDecl}
 use Rattle.region_tree.specs.declared.decl.FieldPut.{FieldPut}
 use Rattle.region_tree.specs.Chains.{parent_at, IsRooted}
 use Rattle.region_tree.specs.Marks.{mark_at, rank_of, Known}
-use Rattle.region_tree.specs.Regions.{number_of, parent_number, parents_of, region_names, place_of, field_region}
+use Rattle.region_tree.specs.Regions.{number_of, parent_number, parents_of, region_names, field_region}
 use Rattle.region_tree.specs.Faults.{AllGood}
 use Rattle.region_tree.specs.Names.{number_at, Numbered, Places}
 use Rattle.region_tree.proofs.Numbers.{number_below, names-parents}
@@ -41,7 +41,7 @@ pub tree_falls : (declared : List RegionDecl) (parents : List (Option ℕ)) (mar
 tree_falls declared parents marks next is known good k x e =
     let r = parent_decl declared k x (ap (λ (p : List (Option ℕ)). parent_at p k) (sym is) ∙ e) in
     let rooted : IsRooted parents k =
-        subst (λ (p : List (Option ℕ)). IsRooted p k) (sym is) (subst (λ (z : ℕ). IsRooted (parents_of declared) z) (sym r.2) (good r.0 r.1 r.3 r.4).2) in
+    subst (λ (p : List (Option ℕ)). IsRooted p k) (sym is) (subst (λ (z : ℕ). IsRooted (parents_of declared) z) (sym r.2) (good r.0 r.1 r.3 r.4).2) in
     let long : length (parents_of declared) ≡ length declared + 2 = grind (arith, common_steps) in
     rooted_falls parents marks next k x known (omega (arith, known.marked.long, ap length is, long, r.2, r.3)) (omega (arith, r.2)) rooted e
 

@@ -1,11 +1,10 @@
 -- What is known of the declarations and fields that were looked at.
-use Rattle.std.proofs.Common.{◌≡◌, ◌≢◌, ℕ, zero, suc, ◌+◌, ◌-◌, ◌<◌, ◌≤◌, List, [], ◌∷◌, ◌++◌, length, get_or, take, map, refl, sym, ◌∙◌, ap, subst, inl, inr, arith, ◌⊎◌, Bool, true, false, cond, rules}
+use Rattle.std.proofs.Common.{◌≡◌, ℕ, ◌+◌, ◌<◌, List, [], ◌∷◌, ◌++◌, length, get_or, take, refl, sym, ◌∙◌, ap, subst, inl, inr, ◌⊎◌, Bool, true, false, cond, rules}
 use Rattle.std.specs.Prelude.{Option, Some, None, option_and_then, find, is_some}
 use Rattle.std.specs.List.{slice_get, position_or_len}
 use Rattle.std.specs.Option.{option_or}
 use Rattle.std.specs.Str.{bytes_eq}
 use Rattle.std.specs.BTreeMap.{BTreeMap}
-use Rattle.std.proofs.lemmas.Grind.{common_steps}
 use Rattle.std.proofs.lemmas.List.{take_more}
 use Rattle.std.proofs.lemmas.List.Folds.{find-append, find_at}
 use Rattle.std.proofs.lemmas.Option.{slice_get-get_or}
@@ -13,7 +12,7 @@ use Rattle.region_tree.specs.declared.decl.RegionDecl.{RegionDecl}
 use Rattle.region_tree.specs.declared.decl.FieldPut.{FieldPut}
 use Rattle.region_tree.specs.Regions.{number_of, kind_of, field_region, place_of}
 use Rattle.region_tree.specs.Faults.{IsGood, AllGood, IsPlaced, AllPlaced}
-use Rattle.region_tree.specs.Names.{number_at, PutsFirst, Places}
+use Rattle.region_tree.specs.Names.{PutsFirst, Places}
 use Rattle.region_tree.proofs.Numbers.{get_take}
 
 some_at : {X : Type 0} (xs : List X) (i : ℕ) (d x : X) → i < length xs → d ≡ get_or xs i d → slice_get xs i ≡ Some x → x ≡ d
@@ -66,9 +65,9 @@ place_more : (declared : List RegionDecl) (puts : List FieldPut) (i : ℕ) (d : 
 place_more declared puts i d q within e placed =
     ap (λ (ps : List FieldPut). place_of declared ps q) (take_more puts i d within ∙ ap (λ (z : FieldPut). take i puts ++ z ∷ []) (sym e))
     ∙ find_then (λ put. number_of declared (field_region put)) (λ put. bytes_eq put.field q) (take i puts) d
-        (λ x found. placed_number declared x
-          (let k = position_or_len (λ put. bytes_eq put.field q) (take i puts) in
-           let r = get_take puts i k x (sym (find_at (λ put. bytes_eq put.field q) (take i puts)) ∙ found) in placed k x r.0 r.1))
+    (λ x found. placed_number declared x
+    (let k = position_or_len (λ put. bytes_eq put.field q) (take i puts) in
+    let r = get_take puts i k x (sym (find_at (λ put. bytes_eq put.field q) (take i puts)) ∙ found) in placed k x r.0 r.1))
 
 -- one field more
 pub places_more : (old new : BTreeMap (List ℕ) ℕ) (declared : List RegionDecl) (puts : List FieldPut) (i : ℕ) (d : FieldPut) (name : List ℕ) (number : ℕ)
@@ -80,9 +79,5 @@ places_more old new declared puts i d name number within e placed same is n p = 
       ∙ ap (λ (z : Option ℕ). option_or z (cond (bytes_eq name q) (Some number) None)) (n.placed q)
       ∙ ap (λ (z : List ℕ). option_or (place_of declared (take i puts) q) (cond (bytes_eq z q) (Some number) None)) same
       ∙ ap (λ (z : Option ℕ). option_or (place_of declared (take i puts) q) (cond (bytes_eq d.field q) z None)) (sym is)
-      ∙ sym (place_more declared puts i d q within e placed)
+      ∙ sym (place_more declared puts i d q within e placed);
 }
-
-pub all_places : (places : BTreeMap (List ℕ) ℕ) (declared : List RegionDecl) (puts : List FieldPut) (n : ℕ) → length puts ≤ n → Places places declared (take n puts)
-    → Places places declared puts
-all_places places declared puts n all m = subst (λ (ps : List FieldPut). Places places declared ps) (grind (arith, common_steps)) m

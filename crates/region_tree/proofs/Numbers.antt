@@ -1,5 +1,5 @@
 -- The numbers of regions, as declarations are taken one by one.
-use Rattle.std.proofs.Common.{◌≡◌, ◌≢◌, ℕ, zero, suc, ◌+◌, ◌<◌, ◌≤◌, List, [], ◌∷◌, ◌++◌, length, get_or, take, map, refl, sym, ◌∙◌, ap, subst, inl, inr, arith, ◌⊎◌, Bool, true, false, cond, rules}
+use Rattle.std.proofs.Common.{◌≡◌, ℕ, zero, suc, ◌+◌, ◌<◌, ◌≤◌, List, [], ◌∷◌, ◌++◌, length, get_or, take, map, refl, sym, ◌∙◌, ap, subst, arith, Bool, true, false, cond}
 use Rattle.std.specs.Prelude.{Option, Some, None, codes, option_and_then}
 use Rattle.std.specs.List.{position_from, slice_get}
 use Rattle.std.specs.Option.{option_or, option_map, option_eq}
@@ -11,25 +11,25 @@ use Rattle.std.specs.Cmp.Lexicographic.{slice_cmp}
 use Rattle.std.proofs.lemmas.List.{take_more, map-append}
 use Rattle.std.proofs.lemmas.Option.{slice_get-map, slice_get-get_or}
 use Rattle.std.proofs.lemmas.Map.Text.{is_eq-slice_cmp}
-use Rattle.std.proofs.Common.{add-zero, ◌-◌, ◌==◌}
+use Rattle.std.proofs.Common.{add-zero, ◌-◌}
 use Rattle.std.proofs.lemmas.Slice.Eq.{bytes_eq-Decides}
 use Rattle.std.specs.Ordering.{is_eq}
 use Rattle.std.specs.Map.{lookup}
 use Rattle.std.specs.Prelude.{is_some}
-use Rattle.std.proofs.lemmas.Grind.{common_steps, elements}
+use Rattle.std.proofs.lemmas.Grind.{common_steps}
 use Rattle.region_tree.specs.declared.decl.RegionDecl.{RegionDecl}
-use Rattle.region_tree.specs.Regions.{root_name, name_or_root, decl_name, decl_kind, region_names, region_kinds, number_of, kind_of, parent_number, parents_of}
-use Rattle.region_tree.specs.Names.{number_at, Numbered, PutsFirst, root_number, number_found}
+use Rattle.region_tree.specs.Regions.{name_or_root, decl_name, decl_kind, region_names, region_kinds, number_of, kind_of, parent_number, parents_of}
+use Rattle.region_tree.specs.Names.{number_at, Numbered, PutsFirst, number_found}
 
 position_push : (t : List ℕ → Bool) (i : ℕ) (xs : List (List ℕ)) (y : List ℕ)
     → position_from t i (xs ++ y ∷ []) ≡ option_or (position_from t i xs) (cond (t y) (Some (i + length xs)) None)
 position_push t i [] y = ap (λ (z : ℕ). cond (t y) (Some z) None) (sym (add-zero i))
 position_push t i (x ∷ xs) y =
     elim (t x) as (λ b. cond b (Some i) (position_from t (i + 1) (xs ++ y ∷ []))
-        ≡ option_or (cond b (Some i) (position_from t (i + 1) xs)) (cond (t y) (Some (i + suc (length xs))) None)) [
-      true ↦ refl
-    | false ↦ (let same : (i + 1) + length xs ≡ i + suc (length xs) = omega arith in
-        position_push t (i + 1) xs y ∙ ap (λ (z : ℕ). option_or (position_from t (i + 1) xs) (cond (t y) (Some z) None)) same)
+    ≡ option_or (cond b (Some i) (position_from t (i + 1) xs)) (cond (t y) (Some (i + suc (length xs))) None)) [
+      | true ↦ refl
+      | false ↦ (let same : (i + 1) + length xs ≡ i + suc (length xs) = omega arith in
+          position_push t (i + 1) xs y ∙ ap (λ (z : ℕ). option_or (position_from t (i + 1) xs) (cond (t y) (Some z) None)) same)
     ]
 
 names_more : (declared : List RegionDecl) (i : ℕ) (d : RegionDecl) → i < length declared
@@ -50,7 +50,7 @@ number_more declared i d q within =
     ap (position_from t 0) (names_more declared i d within)
     ∙ position_push t 0 (region_names (take i declared)) (get_or declared i d).name
     ∙ ap (λ (z : ℕ). option_or (position_from t 0 (region_names (take i declared))) (cond (t (get_or declared i d).name) (Some z) None))
-        (names_long declared i within)
+    (names_long declared i within)
 
 -- the written name, or the root
 pub found_is : (numbers : BTreeMap (List ℕ) ℕ) (declared : List RegionDecl) (name : Option (List ℕ)) (is_static : Bool) → Numbered numbers declared
@@ -110,11 +110,11 @@ roots_numbered m0 m1 m2 declared first second empty is_first is_second one two =
   numbered = λ name.
       two.puts name
       ∙ ap (λ (z : Option ℕ). option_or z (cond (bytes_eq second name) (Some 1) None))
-          (one.puts name ∙ ap (λ (z : Option ℕ). option_or z (cond (bytes_eq first name) (Some 0) None))
-              (ap (λ (es : List (List ℕ × ℕ)). lookup (is_at (slice_cmp nat_cmp name)) es) empty))
+      (one.puts name ∙ ap (λ (z : Option ℕ). option_or z (cond (bytes_eq first name) (Some 0) None))
+      (ap (λ (es : List (List ℕ × ℕ)). lookup (is_at (slice_cmp nat_cmp name)) es) empty))
       ∙ roots_or (bytes_eq first name) (bytes_eq second name)
       ∙ ap (λ (z : List ℕ). cond (bytes_eq z name) (Some 0) (cond (bytes_eq second name) (Some 1) None)) is_first
-      ∙ ap (λ (z : List ℕ). cond (bytes_eq (codes "Instance") name) (Some 0) (cond (bytes_eq z name) (Some 1) None)) is_second
+      ∙ ap (λ (z : List ℕ). cond (bytes_eq (codes "Instance") name) (Some 0) (cond (bytes_eq z name) (Some 1) None)) is_second;
 }
 
 pub more_numbered : (old new : BTreeMap (List ℕ) ℕ) (declared : List RegionDecl) (i : ℕ) (d : RegionDecl) (name : List ℕ) → i < length declared
@@ -125,11 +125,8 @@ more_numbered old new declared i d name within is same n p = record {
       p.puts q
       ∙ ap (λ (z : Option ℕ). option_or z (cond (bytes_eq name q) (Some (i + 2)) None)) (n.numbered q)
       ∙ ap (λ (z : List ℕ). option_or (number_of (take i declared) q) (cond (bytes_eq z q) (Some (i + 2)) None)) here
-      ∙ sym (number_more declared i d q within)
+      ∙ sym (number_more declared i d q within);
 }
-
-pub all_numbered : (numbers : BTreeMap (List ℕ) ℕ) (declared : List RegionDecl) (n : ℕ) → length declared ≤ n → Numbered numbers (take n declared) → Numbered numbers declared
-all_numbered numbers declared n all m = subst (λ (ds : List RegionDecl). Numbered numbers ds) (grind (arith, common_steps)) m
 
 -- the kind of the written name
 kind_found : (numbers : BTreeMap (List ℕ) ℕ) (declared : List RegionDecl) (name : Option (List ℕ)) (is_static : Bool) → Numbered numbers declared
@@ -147,11 +144,6 @@ pub kind_some : (numbers : BTreeMap (List ℕ) ℕ) (declared : List RegionDecl)
     → kind_of declared (name_or_root name is_static) ≡ slice_get (region_kinds declared) k
 kind_some numbers declared name is_static found k n e some =
     kind_found numbers declared name is_static n ∙ ap (option_and_then (slice_get (region_kinds declared))) (sym e ∙ some)
-
-get_past : {X : Type 0} (xs : List X) (k : ℕ) → length xs ≤ k → slice_get xs k ≡ None
-get_past [] k past = refl
-get_past (x ∷ xs) zero past = absurd (omega arith)
-get_past (x ∷ xs) (suc k) past = get_past xs k (omega arith)
 
 kind_at : (declared : List RegionDecl) (n : ℕ) → 2 ≤ n → slice_get (region_kinds declared) n ≡ option_map decl_kind (slice_get declared (n - 2))
 kind_at declared zero a = absurd (omega arith)
@@ -173,7 +165,7 @@ pub parents_pushed : (numbers : BTreeMap (List ℕ) ℕ) (declared : List Region
     → pushed ≡ None ∷ None ∷ map (parent_number declared) (take (i + 1) declared)
 parents_pushed numbers declared i d found parents pushed within n is e push so_far =
     let here : found ≡ parent_number declared (get_or declared i d) =
-        e ∙ found_is numbers declared d.parent d.is_static n ∙ ap (parent_number declared) is in
+    e ∙ found_is numbers declared d.parent d.is_static n ∙ ap (parent_number declared) is in
     push ∙ ap (λ (z : Option ℕ). parents ++ z ∷ []) here ∙ parents_more declared i d parents within so_far
 
 pub none_of : (o : Option ℕ) → is_some o ≡ false → o ≡ None
@@ -184,14 +176,6 @@ pub kind_some_at : (declared : List RegionDecl) (n : ℕ) (d : RegionDecl) → 2
     → Some d.is_static ≡ slice_get (region_kinds declared) n
 kind_some_at declared n d low within e =
     ap (λ (z : RegionDecl). Some z.is_static) e ∙ sym (ap (option_map decl_kind) (slice_get-get_or declared (n - 2) d within)) ∙ sym (kind_at declared n low)
-
-pub kind_none_at : (declared : List RegionDecl) (n : ℕ) → 2 ≤ n → length declared ≤ n - 2 → None ≡ slice_get (region_kinds declared) n
-kind_none_at declared n low past = ap (option_map decl_kind) (sym (get_past declared (n - 2) past)) ∙ sym (kind_at declared n low)
-
-pub kind_root_at : (declared : List RegionDecl) (n : ℕ) → n < 2 → Some (n == 1) ≡ slice_get (region_kinds declared) n
-kind_root_at declared zero low = refl
-kind_root_at declared (suc zero) low = refl
-kind_root_at declared (suc (suc n)) low = absurd (omega arith)
 
 -- an element of a front of a list
 pub get_take : {X : Type 0} (xs : List X) (i k : ℕ) (x : X) → slice_get (take i xs) k ≡ Some x → (k < i) × (slice_get xs k ≡ Some x)

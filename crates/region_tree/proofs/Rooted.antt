@@ -1,14 +1,10 @@
 -- What settled marks say of chains.
-use Rattle.std.proofs.Common.{◌≡◌, ◌≢◌, ℕ, zero, suc, ◌+◌, ◌<◌, ◌≤◌, List, [], ◌∷◌, ◌++◌, length, get_or, refl, sym, ◌∙◌, ap, subst, inl, inr, arith, ◌⊎◌, sum_by, replicate, rules, eqb-true, eq-eqb}
+use Rattle.std.proofs.Common.{◌≡◌, ◌≢◌, ℕ, zero, suc, ◌<◌, ◌≤◌, List, [], ◌∷◌, length, refl, sym, ◌∙◌, ap, subst, inl, inr, arith, ◌⊎◌, eqb-true, eq-eqb}
 use Rattle.std.specs.Prelude.{Option, Some, None, IsTrue, ◌==◌}
-use Rattle.std.proofs.Math.ListN.{set, length-set}
-use Rattle.std.proofs.lemmas.Grind.{common_steps, elements}
-use Rattle.std.proofs.lemmas.List.Sums.{sum_by-set}
 use Rattle.region_tree.specs.declared.mark.Mark.{Mark}
 use Rattle.region_tree.specs.declared.mark.Mark.TheVariants as mark
 use Rattle.region_tree.specs.Chains.{parent_at, Leads, IsUnder, IsRooted}
-use Rattle.region_tree.specs.Marks.{mark_at, rank_of, open_weight, IsRanked, Marked, LostClosed, IsSettled, Known}
-use Rattle.region_tree.proofs.Climbs.{after_set}
+use Rattle.region_tree.specs.Marks.{mark_at, rank_of, IsRanked, Marked, LostClosed, Known}
 
 pub under_same : (parents : List (Option ℕ)) (a : ℕ) → IsUnder parents a a
 unfolding IsUnder
@@ -24,9 +20,9 @@ unfolding IsRooted
 rooted_within parents marks next m zero k r less e = absurd (omega arith)
 rooted_within parents marks next m (suc n) k r less e =
     elim (m.ranked k r e) [
-      inl low ↦ (k, low, under_same parents k)
-    | inr a ↦ (let up = rooted_within parents marks next m n a.0 a.1 (omega (arith, a.4)) a.3 in
-               (up.0, up.1, under_step parents k a.0 up.0 a.2 up.2))
+      | inl low ↦ (k, low, under_same parents k)
+      | inr a ↦ (let up = rooted_within parents marks next m n a.0 a.1 (omega (arith, a.4)) a.3 in
+          (up.0, up.1, under_step parents k a.0 up.0 a.2 up.2))
     ]
 
 pub ranked_rooted : (parents : List (Option ℕ)) (marks : List Mark) (next k r : ℕ) → Marked parents marks next
@@ -57,7 +53,6 @@ unranked_lost parents marks next k known within unranked = go (mark_at marks k) 
     go mark.Lost e = e
     go (mark.Ranked r) e = absurd (unranked r e)
 
-
 pub under_inv : (parents : List (Option ℕ)) (a b : ℕ) → IsUnder parents a b
     → (a ≡ b) ⊎ ((x : ℕ) × (parent_at parents a ≡ Some x) × IsUnder parents x b)
 unfolding IsUnder
@@ -72,8 +67,8 @@ falls_chain : (parents : List (Option ℕ)) (rank : ℕ → ℕ) (b : ℕ) → (
 falls_chain parents rank b falls [] a e = inl e
 falls_chain parents rank b falls (x ∷ chain) a l =
     elim (falls_chain parents rank b falls chain x l.1) [
-      inl e ↦ inr (subst (λ (z : ℕ). rank z < rank a) e (falls a x l.0))
-    | inr less ↦ inr (let down = falls a x l.0 in omega arith)
+      | inl e ↦ inr (subst (λ (z : ℕ). rank z < rank a) e (falls a x l.0))
+      | inr less ↦ inr (let down = falls a x l.0 in omega arith)
     ]
 
 -- a region that is under another is that one, or of a higher rank
@@ -86,15 +81,15 @@ under_falls parents rank a b falls u = falls_chain parents rank b falls u.0 a u.
 pub step_back : (parents : List (Option ℕ)) (rank : ℕ → ℕ) (a x b : ℕ) → rank b < rank a → parent_at parents a ≡ Some x → IsUnder parents a b → IsUnder parents x b
 step_back parents rank a x b higher p u =
     elim (under_inv parents a b u) [
-      inl same ↦ (let low : rank a < rank a = subst (λ (z : ℕ). rank z < rank a) (sym same) higher in absurd (omega arith))
-    | inr up ↦ (let same : up.0 ≡ x = cc in subst (λ (z : ℕ). IsUnder parents z b) same up.2)
+      | inl same ↦ (let low : rank a < rank a = subst (λ (z : ℕ). rank z < rank a) (sym same) higher in absurd (omega arith))
+      | inr up ↦ (let same : up.0 ≡ x = cc in subst (λ (z : ℕ). IsUnder parents z b) same up.2)
     ]
 
 pub none_back : (parents : List (Option ℕ)) (rank : ℕ → ℕ) (a b : ℕ) → rank b < rank a → parent_at parents a ≡ None → IsUnder parents a b → ⊥
 none_back parents rank a b higher none u =
     elim (under_inv parents a b u) [
-      inl same ↦ (let low : rank a < rank a = subst (λ (z : ℕ). rank z < rank a) (sym same) higher in omega arith)
-    | inr up ↦ (let both = sym none ∙ up.1 in cc)
+      | inl same ↦ (let low : rank a < rank a = subst (λ (z : ℕ). rank z < rank a) (sym same) higher in omega arith)
+      | inr up ↦ (let both = sym none ∙ up.1 in cc)
     ]
 
 ranked_of : (parents : List (Option ℕ)) (marks : List Mark) (next k : ℕ) → Known parents marks next → k < length marks → IsRooted parents k → IsRanked marks k
@@ -112,11 +107,11 @@ pub rooted_falls : (parents : List (Option ℕ)) (marks : List Mark) (next k x :
 rooted_falls parents marks next k x known within low rooted p =
     let r = ranked_of parents marks next k known within rooted in
     elim (known.marked.ranked k r.0 r.1) [
-      inl root ↦ absurd (omega arith)
-    | inr a ↦ (let same : a.0 ≡ x = cc in
-        let up : rank_of (mark_at marks x) ≡ a.1 = ap (λ (z : ℕ). rank_of (mark_at marks z)) (sym same) ∙ ap rank_of a.3 in
-        let here : rank_of (mark_at marks k) ≡ r.0 = ap rank_of r.1 in
-        omega (arith, up, here, a.4))
+      | inl root ↦ absurd (omega arith)
+      | inr a ↦ (let same : a.0 ≡ x = cc in
+          let up : rank_of (mark_at marks x) ≡ a.1 = ap (λ (z : ℕ). rank_of (mark_at marks z)) (sym same) ∙ ap rank_of a.3 in
+          let here : rank_of (mark_at marks k) ≡ r.0 = ap rank_of r.1 in
+          omega (arith, up, here, a.4))
     ]
 
 -- at the end of a climb to the height of b
@@ -128,6 +123,6 @@ pub at_goal : (parents : List (Option ℕ)) (marks : List Mark) (a b : ℕ)
     → rank_of (mark_at marks a) ≤ rank_of (mark_at marks b) → IsUnder parents a b → IsTrue (a == b)
 at_goal parents marks a b falls low u =
     elim (under_falls parents (λ z. rank_of (mark_at marks z)) a b falls u) [
-      inl same ↦ eq-eqb a b same
-    | inr less ↦ absurd (omega arith)
+      | inl same ↦ eq-eqb a b same
+      | inr less ↦ absurd (omega arith)
     ]

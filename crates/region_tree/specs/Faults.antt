@@ -1,5 +1,5 @@
 -- Which declaration or field is faulty, and how.
-use Rattle.std.specs.Prelude.{◌≡◌, ◌≢◌, ℕ, ◌+◌, ◌<◌, List, Option, Some, None, Bool, length}
+use Rattle.std.specs.Prelude.{◌≡◌, ◌≢◌, ℕ, ◌+◌, ◌<◌, List, Some, None, Bool, length}
 use Rattle.std.specs.List.{slice_get}
 use Rattle.region_tree.specs.declared.decl.RegionDecl.{RegionDecl}
 use Rattle.region_tree.specs.declared.decl.FieldPut.{FieldPut}

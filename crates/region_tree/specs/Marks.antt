@@ -1,5 +1,5 @@
 -- What is known of each region while chains of parents are climbed.
-use Rattle.std.specs.Prelude.{◌≡◌, ◌≢◌, ℕ, ◌+◌, ◌<◌, ◌≤◌, ◌⊎◌, List, Option, Some, None, length, sum_by}
+use Rattle.std.specs.Prelude.{◌≡◌, ◌≢◌, ℕ, ◌+◌, ◌<◌, ◌≤◌, ◌⊎◌, List, Option, Some, length, sum_by}
 use Rattle.std.specs.List.{slice_index_or}
 use Rattle.region_tree.specs.declared.mark.Mark.{Mark}
 use Rattle.region_tree.specs.declared.mark.Mark.TheVariants as mark

@@ -1,11 +1,10 @@
 -- The regions of a class: the two roots and those that it declares, in order. A name finds the first
 -- region that has it.
-use Rattle.std.specs.Prelude.{◌≡◌, ℕ, ◌+◌, ◌<◌, List, [], ◌∷◌, Option, Some, None, Bool, true, false, map, find, codes, option_and_then}
+use Rattle.std.specs.Prelude.{ℕ, List, ◌∷◌, Option, Some, None, Bool, true, false, map, find, codes, option_and_then}
 use Rattle.std.specs.List.{slice_get, position_from}
 use Rattle.std.specs.Str.{bytes_eq}
 use Rattle.region_tree.specs.declared.decl.RegionDecl.{RegionDecl}
 use Rattle.region_tree.specs.declared.decl.FieldPut.{FieldPut}
-use Rattle.region_tree.specs.Chains.{IsUnder}
 
 -- the name of the root of a kind
 abbrev pub root_name : Bool → List ℕ

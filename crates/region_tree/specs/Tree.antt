@@ -1,11 +1,7 @@
 -- What a tree of regions shows.
-use Rattle.std.specs.Prelude.{◌≡◌, ℕ, List, Option}
-use Rattle.desk_base.specs.declared.name.Name.{Name}
+use Rattle.std.specs.Prelude.{ℕ, List, Option}
 use Rattle.region_tree.specs.declared.tree.RegionTree.{RegionTree}
-use Rattle.region_tree.specs.declared.decl.RegionDecl.{RegionDecl}
-use Rattle.region_tree.specs.declared.decl.FieldPut.{FieldPut}
-use Rattle.region_tree.specs.Names.{number_at, Numbered, Places}
-use Rattle.region_tree.specs.Regions.{parents_of}
+use Rattle.region_tree.specs.Names.{number_at}
 
 -- the parents of its regions by their numbers
 abbrev pub parents_in : RegionTree → List (Option ℕ)

@@ -2,17 +2,19 @@
 //! which. It knows nothing of Java's text nor of locks.
 #![tactic(auto)]
 
-mod make;
 mod check;
 mod climb;
 mod decl;
 mod fault;
+mod make;
 mod mark;
 mod names;
 mod place;
+#[cfg(test)]
+mod tests;
 mod tree;
 
-pub use make::build;
 pub use decl::{FieldPut, RegionDecl};
 pub use fault::RegionError;
+pub use make::build;
 pub use tree::{RegionId, RegionTree};

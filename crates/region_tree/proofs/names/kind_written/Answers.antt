@@ -1,4 +1,4 @@
-use Rattle.std.proofs.Common.{◌≡◌, sym, ◌∙◌}
+use Rattle.std.proofs.Common.{sym, ◌∙◌}
 use Rattle.region_tree.proofs.Numbers.{kind_none, kind_some}
 use Rattle.region_tree.proofs.names.kind_written.Goals as goal
 

@@ -10,5 +10,5 @@ loop-put-preserved c =
       good = placed_more c.args.declared.now c.args.fields.now i c.put-item.result c.loop-put-test.true c.put-item.is inv.good number.placed;
       places = places_more c.loop-put.places c.put_first.new.numbers c.args.declared.now c.args.fields.now i c.put-item.result
           c.in_ok-clone.field-0 c.in_ok-number.number c.loop-put-test.true c.put-item.is inv.good c.in_ok-clone.ensures.cases number.number
-          inv.places c.in_ok-put_first.ensures
+          inv.places c.in_ok-put_first.ensures;
     }

@@ -6,5 +6,5 @@ use Rattle.region_tree.proofs.place.place_fields.Given as goal
 abbrev pub invariant-loop-put : goal.invariant-loop-put
 invariant-loop-put l = record {
   good : AllPlaced l.declared l.fields l.put-index;
-  places : Places l.places l.declared (take l.put-index l.fields)
+  places : Places l.places l.declared (take l.put-index l.fields);
 }

@@ -1,10 +1,10 @@
-use Rattle.std.proofs.Common.{◌≡◌, ◌≢◌, ◌<◌, List, ℕ, [], ◌∷◌, ◌++◌, length, subst, arith, sym, ◌∙◌, inr}
+use Rattle.std.proofs.Common.{◌≡◌, ◌≢◌, ◌<◌, List, ℕ, [], ◌∷◌, ◌++◌, length, arith, sym, ◌∙◌, inr}
 use Rattle.std.specs.Prelude.{Some, None}
 use Rattle.region_tree.specs.declared.mark.Mark.{Mark}
 use Rattle.region_tree.specs.declared.mark.Mark.TheVariants as mark
 use Rattle.region_tree.specs.Chains.{parent_at}
-use Rattle.region_tree.specs.Marks.{mark_at, OnPath, ClimbsTo, LostFalls}
-use Rattle.region_tree.proofs.Climbs.{set_stays, pass_marked, pass_lost, pass_path, pass_climbs, pass_begun, climb_falls, end_falls, mark_read, parent_read, passing-not-fresh, down_of, pass_path_to, pass_climbs_to, end_falls_to, parent_within, mark_is, start_begun}
+use Rattle.region_tree.specs.Marks.{mark_at}
+use Rattle.region_tree.proofs.Climbs.{set_stays, pass_marked, pass_lost, pass_path, pass_begun, climb_falls, mark_read, parent_read, passing-not-fresh, down_of, pass_path_to, pass_climbs_to, end_falls_to, parent_within, mark_is, start_begun}
 use Rattle.region_tree.proofs.climb.Climber.climb.Goals as goal
 
 pub loop-self-preserved : goal.loop-self-preserved
@@ -15,7 +15,7 @@ loop-self-preserved c =
     let fresh : mark_at marks at ≡ mark.Fresh = mark_read marks at _ mark.Fresh inv.within c.index.ensures c.in-Fresh.is in
     let near : at < length c.loop-self.self.parents.items = omega (arith, inv.marked.long, inv.within) in
     let parent : parent_at c.loop-self.self.parents.items at ≡ Some c.in-Some.parent =
-        parent_read c.loop-self.self.parents.items at _ _ near c.index-in-Fresh.ensures c.in-Some.is in
+    parent_read c.loop-self.self.parents.items at _ _ near c.index-in-Fresh.ensures c.in-Some.is in
     let pushed : c.push.new.self.items ≡ c.loop-self.self.path.items ++ at ∷ [] = c.in_ok-push.ensures.items in
     record {
       parents = inv.parents;
@@ -25,7 +25,7 @@ loop-self-preserved c =
       climbs = pass_climbs_to _ _ _ at _ pushed inv.climbs parent;
       within = parent_within _ marks _ at _ mark.Passing inv.marked parent;
       begun = inr (pass_begun marks at _ inv.within inv.begun);
-      stays = set_stays _ marks at mark.Passing inv.stays inv.within passing-not-fresh
+      stays = set_stays _ marks at mark.Passing inv.stays inv.within passing-not-fresh;
     }
 
 pub returns-in-None-clause-marked : goal.returns-in-None-clause-marked
@@ -43,7 +43,7 @@ returns-in-None-clause-falls c =
     let fresh : mark_at marks at ≡ mark.Fresh = mark_read marks at _ mark.Fresh inv.within c.index.ensures c.in-Fresh.is in
     let near : at < length c.loop-self.self.parents.items = omega (arith, inv.marked.long, inv.within) in
     let parent : parent_at c.loop-self.self.parents.items at ≡ None =
-        parent_read c.loop-self.self.parents.items at _ _ near c.index-in-Fresh.ensures c.in-None.is in
+    parent_read c.loop-self.self.parents.items at _ _ near c.index-in-Fresh.ensures c.in-None.is in
     let pushed : c.push.new.self.items ≡ c.loop-self.self.path.items ++ at ∷ [] = c.in_ok-push.ensures.items in
     end_falls_to _ _ _ _ at pushed (pass_lost _ marks at inv.lost inv.within fresh) (pass_path marks _ at inv.path inv.within fresh) inv.climbs parent
 
@@ -64,5 +64,5 @@ returns-in_default-matches c =
       rooted = tt;
       falls = climb_falls _ marks _ at inv.lost inv.path inv.climbs down;
       begun = start_begun marks at _ inv.begun begun;
-      stays = inv.stays
+      stays = inv.stays;
     }

@@ -12,7 +12,7 @@ invariant-loop-self l = record {
   climbs : ClimbsTo l.self.parents.items l.self.path.items l.at;
   within : l.at < length l.self.marks.items;
   begun : (l.at ≡ l.start) ⊎ (mark_at l.self.marks.items l.start ≢ Fresh);
-  stays : StaysBegun l.initial.self.marks.items l.self.marks.items
+  stays : StaysBegun l.initial.self.marks.items l.self.marks.items;
 }
 
 -- the regions at which no climb has come

@@ -1,4 +1,4 @@
-use Rattle.std.proofs.Common.{◌≡◌, ◌≢◌, List, ℕ, [], ◌∷◌, ◌++◌, subst, arith}
+use Rattle.std.proofs.Common.{◌≡◌, List, ℕ, [], ◌∷◌, ◌++◌, subst}
 use Rattle.region_tree.specs.declared.mark.Mark.{Mark}
 use Rattle.region_tree.specs.declared.mark.Mark.TheVariants as mark
 use Rattle.region_tree.specs.Marks.{OnPath, LostFalls}
@@ -14,7 +14,7 @@ loop-region-preserved c =
     let is : c.loop-region.self.path.items ≡ rest ++ region ∷ [] = c.in-Some.ensures.items in
     let on : OnPath marks (rest ++ region ∷ []) = subst (λ (p : List ℕ). OnPath marks p) is inv.path in
     let falls : LostFalls c.loop-region.self.parents.items marks (rest ++ region ∷ []) =
-        subst (λ (p : List ℕ). LostFalls c.loop-region.self.parents.items marks p) is inv.falls in
+    subst (λ (p : List ℕ). LostFalls c.loop-region.self.parents.items marks p) is inv.falls in
     let within = top_within marks rest region on in
     let passing = top_passing marks rest region on in
     record {
@@ -22,5 +22,5 @@ loop-region-preserved c =
       marked = lose_marked _ marks _ region inv.marked within passing;
       falls = lose_falls _ marks rest region falls within;
       path = pop_path marks rest region mark.Lost on lost-not-passing;
-      stays = set_stays _ marks region mark.Lost inv.stays within lost-not-fresh
+      stays = set_stays _ marks region mark.Lost inv.stays within lost-not-fresh;
     }

@@ -8,7 +8,7 @@ invariant-loop-region l = record {
   marked : Marked l.self.parents.items l.self.marks.items l.self.next;
   falls : LostFalls l.self.parents.items l.self.marks.items l.self.path.items;
   path : OnPath l.self.marks.items l.self.path.items;
-  stays : StaysBegun l.initial.self.marks.items l.self.marks.items
+  stays : StaysBegun l.initial.self.marks.items l.self.marks.items;
 }
 
 abbrev pub decreases-loop-region : goal.decreases-loop-region

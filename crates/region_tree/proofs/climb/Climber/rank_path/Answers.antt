@@ -1,4 +1,4 @@
-use Rattle.std.proofs.Common.{◌≡◌, ◌≢◌, List, ℕ, [], ◌∷◌, ◌++◌, subst, arith}
+use Rattle.std.proofs.Common.{◌≡◌, List, ℕ, [], ◌∷◌, ◌++◌, subst}
 use Rattle.region_tree.specs.declared.mark.Mark.{Mark}
 use Rattle.region_tree.specs.declared.mark.Mark.TheVariants as mark
 use Rattle.region_tree.specs.Marks.{OnPath, ClimbsTo}
@@ -15,7 +15,7 @@ loop-region-preserved c =
     let is : c.loop-region.self.path.items ≡ rest ++ region ∷ [] = c.in-Some.ensures.items in
     let on : OnPath marks (rest ++ region ∷ []) = subst (λ (p : List ℕ). OnPath marks p) is inv.path in
     let climbs : ClimbsTo c.loop-region.self.parents.items (rest ++ region ∷ []) end =
-        subst (λ (p : List ℕ). ClimbsTo c.loop-region.self.parents.items p end) is inv.rooted.2 in
+    subst (λ (p : List ℕ). ClimbsTo c.loop-region.self.parents.items p end) is inv.rooted.2 in
     let within = top_within marks rest region on in
     let passing = top_passing marks rest region on in
     record {
@@ -24,5 +24,5 @@ loop-region-preserved c =
       lost = rank_lost _ marks _ region inv.lost within passing;
       path = pop_path marks rest region (mark.Ranked c.loop-region.self.next) on (ranked-not-passing _);
       rooted = (region, (c.loop-region.self.next, set_here marks region _ within), rank_climbs _ rest region end climbs);
-      stays = set_stays _ marks region (mark.Ranked c.loop-region.self.next) inv.stays within (ranked-not-fresh _)
+      stays = set_stays _ marks region (mark.Ranked c.loop-region.self.next) inv.stays within (ranked-not-fresh _);
     }

@@ -9,7 +9,7 @@ invariant-loop-region l = record {
   lost : LostClosed l.self.parents.items l.self.marks.items;
   path : OnPath l.self.marks.items l.self.path.items;
   rooted : ClimbsToRank l.self.parents.items l.self.marks.items l.self.path.items;
-  stays : StaysBegun l.initial.self.marks.items l.self.marks.items
+  stays : StaysBegun l.initial.self.marks.items l.self.marks.items;
 }
 
 abbrev pub decreases-loop-region : goal.decreases-loop-region

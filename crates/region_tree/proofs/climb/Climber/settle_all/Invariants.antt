@@ -11,5 +11,5 @@ invariant-loop-start l = record {
   lost : LostClosed l.self.parents.items l.self.marks.items;
   settled : IsSettled l.self.marks.items;
   empty : l.self.path.items ≡ [];
-  begun : (k : ℕ) → k < l.start → mark_at l.self.marks.items k ≢ Fresh
+  begun : (k : ℕ) → k < l.start → mark_at l.self.marks.items k ≢ Fresh;
 }

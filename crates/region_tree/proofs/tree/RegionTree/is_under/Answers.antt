@@ -1,7 +1,7 @@
 use Rattle.std.proofs.Common.{◌≡◌, ◌<◌, ◌≤◌, ℕ, arith, rules}
 use Rattle.std.specs.Prelude.{Option, Some, None, List}
 use Rattle.region_tree.specs.declared.mark.Mark.{Mark}
-use Rattle.region_tree.specs.Chains.{parent_at, IsUnder}
+use Rattle.region_tree.specs.Chains.{parent_at}
 use Rattle.region_tree.specs.Marks.{mark_at, rank_of}
 use Rattle.region_tree.proofs.Climbs.{parent_read}
 use Rattle.region_tree.proofs.Rooted.{under_step, step_back, none_back, at_goal, from_goal}
@@ -22,7 +22,7 @@ loop-at-preserved c =
     record {
       within = tree.within c.loop-at.at c.in-Some.parent up;
       there = λ u. inv.there (under_step parents c.loop-at.at c.in-Some.parent c.args.b.number up u);
-      back = λ u. step_back parents rank c.loop-at.at c.in-Some.parent c.args.b.number higher up (inv.back u)
+      back = λ u. step_back parents rank c.loop-at.at c.in-Some.parent c.args.b.number higher up (inv.back u);
     }
 
 pub returns-in-None : goal.returns-in-None
@@ -43,6 +43,7 @@ returns c =
     let marks : List Mark = tree.marks.items in
     let inv = c.loop-at.invariant in
     let low : rank_of (mark_at marks c.loop-at.at) ≤ rank_of (mark_at marks c.args.b.number) =
-        omega (arith, c.rank.ensures, c.rank-height.ensures, c.loop-at-test.false) in
-    (λ same. inv.there (from_goal parents c.loop-at.at c.args.b.number same),
-     λ u. at_goal parents marks c.loop-at.at c.args.b.number tree.falls low (inv.back u))
+    omega (arith, c.rank.ensures, c.rank-height.ensures, c.loop-at-test.false) in (
+      λ same. inv.there (from_goal parents c.loop-at.at c.args.b.number same),
+      λ u. at_goal parents marks c.loop-at.at c.args.b.number tree.falls low (inv.back u),
+    )
