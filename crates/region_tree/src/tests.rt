@@ -3,6 +3,7 @@ use crate::fault::RegionError;
 use crate::make::build;
 use desk_base::Name;
 use std::alloc::Global;
+use std::process::Abort;
 use std::test::Fail;
 
 type Written = (&'static str, Option<&'static str>, bool);
@@ -53,73 +54,53 @@ fn told(error: RegionError) -> Option<(&'static str, Name)> {
     }
 }
 
-#[test]
-fn the_first_fault_is_named(rt: HostRuntime) -> Result<(), Fail> {
+fn assert_fault(
+    rt: &(impl Abort + AllocGlobal),
+    declared: &[Written],
+    fields: &[Written],
+    kind: &str,
+    want: &str,
+) -> Result<(), Fail> {
     let alloc = rt.alloc();
-    let cases: [(&[Written], &[Written], &str, &str); 11] = [
-        (
-            &[("A", Some("B"), false), ("B", Some("A"), false)],
-            &[],
-            "cycle",
-            "A",
-        ),
-        (&[("B", Some("A"), false)], &[], "unknown", "B"),
-        (&[("A", Some("A"), false)], &[], "cycle", "A"),
-        (
-            &[("A", Some("B"), false), ("B", Some("Z"), false)],
-            &[],
-            "cycle",
-            "A",
-        ),
-        (
-            &[("A", None, false), ("Static", None, true)],
-            &[],
-            "repeated",
-            "Static",
-        ),
-        (
-            &[("A", None, false), ("A", None, false)],
-            &[],
-            "repeated",
-            "A",
-        ),
-        (&[("A", Some("Static"), false)], &[], "mixed", "A"),
-        (
-            &[("A", Some("B"), false), ("B", None, true)],
-            &[],
-            "mixed",
-            "A",
-        ),
-        (
-            &[("A", None, false)],
-            &[("n", Some("A"), false), ("m", Some("B"), false)],
-            "field",
-            "m",
-        ),
-        (
-            &[("A", None, false)],
-            &[("n", Some("A"), true)],
-            "field",
-            "n",
-        ),
-        (
-            &[("A", Some("Z"), false)],
-            &[("n", Some("Y"), false)],
-            "unknown",
-            "A",
-        ),
-    ];
-    for (declared, fields, kind, want) in cases {
-        let declared = regions(alloc, declared)?;
-        let fields = puts(alloc, fields)?;
-        let Err(error) = build(alloc, &declared, &fields) else {
-            panic!(rt; "no fault: {kind} {want}");
-        };
-        let (fault, name) = told(error).ok_or("memory")?;
-        assert_eq!(rt; fault, kind);
-        assert_eq!(rt; name.as_slice(), want.as_bytes());
-    }
+    let declared = regions(alloc, declared)?;
+    let fields = puts(alloc, fields)?;
+    let error = build(alloc, &declared, &fields).err().ok_or("no fault")?;
+    let (fault, name) = told(error).ok_or("memory")?;
+    assert_eq!(rt; fault, kind);
+    assert_eq!(rt; name.as_slice(), want.as_bytes());
     Ok(())
+}
+
+#[test]
+fn the_first_faulty_declaration_is_named(rt: HostRuntime) -> Result<(), Fail> {
+    let a = ("A", None, false);
+    let b_in_a = ("B", Some("A"), false);
+    let b_in_z = ("B", Some("Z"), false);
+    let b_static = ("B", None, true);
+    let a_in_b = ("A", Some("B"), false);
+    assert_fault(&rt, &[a_in_b, b_in_a], &[], "cycle", "A")?;
+    assert_fault(&rt, &[b_in_a], &[], "unknown", "B")?;
+    assert_fault(&rt, &[("A", Some("A"), false)], &[], "cycle", "A")?;
+    assert_fault(&rt, &[a_in_b, b_in_z], &[], "cycle", "A")?;
+    assert_fault(&rt, &[a, ("Static", None, true)], &[], "repeated", "Static")?;
+    assert_fault(&rt, &[a, a], &[], "repeated", "A")?;
+    assert_fault(&rt, &[("A", Some("Static"), false)], &[], "mixed", "A")?;
+    assert_fault(&rt, &[a_in_b, b_static], &[], "mixed", "A")
+}
+
+#[test]
+fn the_first_faulty_field_is_named(rt: HostRuntime) -> Result<(), Fail> {
+    let a = ("A", None, false);
+    let n = ("n", Some("A"), false);
+    assert_fault(&rt, &[a], &[n, ("m", Some("B"), false)], "field", "m")?;
+    assert_fault(&rt, &[a], &[("n", Some("A"), true), n], "field", "n")?;
+    assert_fault(
+        &rt,
+        &[("A", Some("Z"), false)],
+        &[("n", Some("Y"), false)],
+        "unknown",
+        "A",
+    )
 }
 
 #[test]
