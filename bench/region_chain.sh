@@ -1,7 +1,7 @@
 #!/bin/sh
 # How the time to build a chain of regions grows: each region names the next one as its parent, and
-# the last one hangs under the root. It prints the times for N and 2N regions, and their ratio in
-# hundredths: about 200 to 220 where the time is linear up to a logarithm, 400 where it is the square.
+# the last one hangs under the root. It prints the least of several times for N and 2N regions,
+# and their ratio in hundredths: about 200 to 220 where the time is linear up to a logarithm, 400 where it is the square.
 set -eu
 top=$(cd "$(dirname "$0")/.." && pwd)
 count=${1:-10000}
@@ -42,30 +42,32 @@ fn chain(alloc: Global, count: u32) -> Result<Vec<RegionDecl>> {
 
 fn measured(rt: &HostRuntime, count: u32) -> Result<u64> {
     let declared = chain(rt.alloc(), count)?;
-    let start = Instant::now(rt)?;
-    for _round in 0..8u32 {
+    let mut least = u64::MAX;
+    for _round in 0..ROUNDS {
+        let start = Instant::now(rt)?;
         let tree = build(rt.alloc(), &declared, &[])?;
         let bottom = tree.region(&name(rt.alloc(), 0)?);
-        let top = tree.region(&name(rt.alloc(), count - 1)?);
+        let top = tree.region(&name(rt.alloc(), count.saturating_sub(1))?);
         if let (Some(bottom), Some(top)) = (bottom, top) {
             if !tree.is_under(bottom, top) {
                 println!(rt; "the chain is broken")?;
             }
         }
+        let took = u64::try_from(start.elapsed(rt)?.as_micros()).unwrap_or(u64::MAX);
+        least = least.min(took);
     }
-    Ok(start.elapsed(rt)?.as_micros() as u64)
+    Ok(least)
 }
 
 fn main(rt: HostRuntime) -> Result<()> {
-    let _warm = measured(&rt, COUNT)?;
     let once = measured(&rt, COUNT)?;
     let twice = measured(&rt, COUNT * 2)?;
     println!(rt; "regions {COUNT} microseconds {once}")?;
     println!(rt; "regions {} microseconds {twice}", COUNT * 2)?;
-    println!(rt; "ratio in hundredths {}", twice * 100 / once.max(1))?;
+    println!(rt; "ratio in hundredths {}", twice.saturating_mul(100) / once.max(1))?;
     Ok(())
 }
 PROGRAM
-sed -i "s/^fn name(/const COUNT: u32 = $count;\n\nfn name(/" "$work/crates/region_chain/src/main.rt"
+sed -i "s/^fn name(/const COUNT: u32 = $count;\nconst ROUNDS: u32 = ${2:-8};\n\nfn name(/" "$work/crates/region_chain/src/main.rt"
 cd "$work/crates/region_chain"
-rt try
+rt run
