@@ -1,0 +1,5 @@
+pub mod Built
+pub mod Climbs
+pub mod Faulty
+pub mod Numbers
+pub mod Rooted

@@ -1,0 +1,6 @@
+pub mod Chains
+pub mod Faults
+pub mod Marks
+pub mod Names
+pub mod Regions
+pub mod Tree

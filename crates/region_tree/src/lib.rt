@@ -1,0 +1,20 @@
+//! The regions of a class: which there are, which region a field is in, and which region is under
+//! which. It knows nothing of Java's text nor of locks.
+#![tactic(auto)]
+
+mod check;
+mod climb;
+mod decl;
+mod fault;
+mod make;
+mod mark;
+mod names;
+mod place;
+#[cfg(test)]
+mod tests;
+mod tree;
+
+pub use decl::{FieldPut, RegionDecl};
+pub use fault::RegionError;
+pub use make::build;
+pub use tree::{RegionId, RegionTree};
