@@ -1,0 +1,5 @@
+pub mod Cutting
+pub mod Steps
+pub mod Sound
+pub mod Lists
+pub mod Again

@@ -1,0 +1,21 @@
+//! The contents of promise annotations: what each of the eleven kinds may say, as trees of typed
+//! parts. It knows words, signs and Java's names. It doesn't know where a promise may stand, what
+//! its names mean, or whether what they name is there.
+#![tactic(auto)]
+
+mod effects;
+mod error;
+mod kind;
+mod lock;
+mod mark;
+mod names;
+mod pieces;
+mod region;
+mod word;
+
+pub use effects::{EffectTarget, EffectsContent};
+pub use error::PromiseError;
+pub use kind::PromiseKind;
+pub use lock::{LockHolder, LockItem, RegionLockContent};
+pub use mark::{BorrowedContent, UniqueContent};
+pub use region::{RegionContent, Visibility};
