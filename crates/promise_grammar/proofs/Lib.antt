@@ -1,5 +1,6 @@
-pub mod Cutting
-pub mod Steps
-pub mod Sound
-pub mod Lists
 pub mod Again
+pub mod Cutting
+pub mod Lists
+pub mod Sound
+pub mod Splitting
+pub mod Steps

@@ -1,7 +1,9 @@
+pub mod Count
 pub mod Cursor
 pub mod Form
 pub mod Kind
 pub mod Outcome
 pub mod Piece
 pub mod Reading
+pub mod Split
 pub mod Word

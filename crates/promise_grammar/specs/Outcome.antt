@@ -1,5 +1,5 @@
 -- Readers of pieces, and the steps that every reader is made of.
-use Rattle.std.specs.Prelude.{◌≡◌, ℕ, Bool, true, false, if◌then◌else◌, ◌==◌, List, [], ◌∷◌, Result, Ok, Err}
+use Rattle.std.specs.Prelude.{◌≡◌, ℕ, Bool, true, false, if◌then◌else◌, ◌==◌, List, [], ◌∷◌, Result, Ok, Err, Option, Some, None}
 use Rattle.std.specs.Str.{bytes_eq}
 use Rattle.promise_grammar.specs.declared.error.PromiseError.{PromiseError}
 use Rattle.promise_grammar.specs.declared.error.PromiseError.TheVariants as error
@@ -40,6 +40,16 @@ f <$> p = p >>= (λ x. pure (f x))
 abbrev pub Reads : {A : Type 0} → Outcome A → Result A PromiseError → List Piece → Type 0
 Reads outcome (Ok a) new = outcome ≡ Found a new
 Reads outcome (Err e) new = e ≡ error.Grammar → outcome ≡ Lost
+
+-- The same of an answer that reads no pieces.
+abbrev pub Answers : {A : Type 0} → Option A → Result A PromiseError → Type 0
+Answers answer (Ok a) = answer ≡ Some a
+Answers answer (Err e) = e ≡ error.Grammar → answer ≡ None
+
+-- the answer, where there is one
+abbrev pub settled : {A : Type 0} → Option A → Reader A
+settled None = λ ps. Lost
+settled (Some a) = λ ps. Found a ps
 
 -- the pieces after the first
 abbrev pub after : List Piece → List Piece

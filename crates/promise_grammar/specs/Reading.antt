@@ -1,5 +1,5 @@
 -- Readers of the forms, piece by piece from the front. What they read is stated apart, in Form.
-use Rattle.std.specs.Prelude.{ℕ, zero, suc, Bool, true, false, if◌then◌else◌, List, [], ◌∷◌, ◌++◌, length, Option, Some, None, codes}
+use Rattle.std.specs.Prelude.{ℕ, zero, suc, Bool, true, false, if◌then◌else◌, not, ◌&&◌, List, [], ◌∷◌, ◌++◌, length, Option, Some, None, codes}
 use Rattle.std.specs.Str.{bytes_eq}
 use Rattle.promise_grammar.specs.declared.region.RegionContent.{RegionContent}
 use Rattle.promise_grammar.specs.declared.region.Visibility.{Visibility}
@@ -16,8 +16,18 @@ use Rattle.promise_grammar.specs.declared.mark.UniqueContent.{UniqueContent}
 use Rattle.promise_grammar.specs.declared.mark.UniqueContent.TheVariants as unique_at
 use Rattle.promise_grammar.specs.declared.mark.BorrowedContent.{BorrowedContent}
 use Rattle.promise_grammar.specs.declared.mark.BorrowedContent.TheVariants as borrowed_at
+use Rattle.promise_grammar.specs.declared.scope.NamePattern.{NamePattern}
+use Rattle.promise_grammar.specs.declared.scope.NamePattern.TheVariants as pattern_of
+use Rattle.promise_grammar.specs.declared.scope.ScopeContent.{ScopeContent}
+use Rattle.promise_grammar.specs.declared.scope.ScopeContent.TheVariants as scope_of
+use Rattle.promise_grammar.specs.declared.member.MemberName.{MemberName}
+use Rattle.promise_grammar.specs.declared.member.MemberName.TheVariants as member_of
+use Rattle.promise_grammar.specs.declared.member.MemberContent.{MemberContent}
+use Rattle.promise_grammar.specs.Word.{is_name}
+use Rattle.promise_grammar.specs.Split.{first_split}
+use Rattle.promise_grammar.specs.Count.{count_of}
 use Rattle.promise_grammar.specs.Piece.{Piece}
-use Rattle.promise_grammar.specs.Outcome.{Outcome, Found, Lost, Reader, and_then, ◌>>=◌, ◌>>◌, ◌<$>◌, pure, lost, name, eat_word, eat_sign, expect_word, expect_sign}
+use Rattle.promise_grammar.specs.Outcome.{Outcome, Found, Lost, Reader, and_then, ◌>>=◌, ◌>>◌, ◌<$>◌, pure, lost, settled, word, name, eat_word, eat_sign, expect_word, expect_sign}
 
 -- ---- lists
 
@@ -134,3 +144,67 @@ unfoldable pub borrowed : Reader BorrowedContent
 borrowed = do
   is_this ← eat_word (codes "this")
   pure (if is_this then borrowed_at.This else borrowed_at.Place)
+
+-- ---- scopes
+
+unfoldable pub exact_pattern : List ℕ → Option NamePattern
+exact_pattern w = if is_name w then Some (pattern_of.Exactly w) else None
+
+abbrev pub is_nil : List ℕ → Bool
+is_nil [] = true
+is_nil (b ∷ bs) = false
+
+unfoldable pub starred_pattern : List ℕ → List ℕ → Option NamePattern
+starred_pattern before after =
+    if is_nil before && is_nil after then Some pattern_of.Any
+    else (if is_name (before ++ after) then Some (pattern_of.Starred (before ++ after) (length before)) else None)
+
+abbrev pub by_star : List ℕ → Option (List ℕ × List ℕ) → Option NamePattern
+by_star w None = exact_pattern w
+by_star w (Some p) = starred_pattern p.0 p.1
+
+unfoldable pub pattern : List ℕ → Option NamePattern
+pattern w = by_star w (first_split 42 w)
+
+unfoldable pub constructors : Reader ScopeContent
+constructors = do
+  expect_sign 40
+  expect_word (codes "**")
+  expect_sign 41
+  pure scope_of.Constructors
+
+abbrev pub opened_members : NamePattern → Reader ScopeContent
+opened_members p = do
+  all ← eat_word (codes "**")
+  if all then expect_sign 41 >> pure (scope_of.Methods p) else expect_sign 41 >> pure (scope_of.PlainMethods p)
+
+unfoldable pub members : NamePattern → Reader ScopeContent
+members p = do
+  opened ← eat_sign 40
+  if opened then opened_members p else pure (scope_of.Fields p)
+
+unfoldable pub scope : Reader ScopeContent
+scope = do
+  w ← word
+  if bytes_eq w (codes "new") then constructors else (settled (pattern w) >>= members)
+
+-- ---- members
+
+unfoldable pub member_name : Reader MemberName
+member_name = do
+  w ← word
+  if bytes_eq w (codes "new") then pure member_of.New else (if is_name w then pure (member_of.Named w) else lost)
+
+unfoldable pub member_count : Reader ℕ
+member_count = do
+  w ← word
+  settled (count_of w)
+
+unfoldable pub member : Reader MemberContent
+member = do
+  m ← member_name
+  expect_sign 47
+  n ← member_count
+  expect_word (codes "in")
+  k ← name
+  pure (record { name = m; count = n; class = k })
