@@ -1,6 +1,9 @@
 pub mod Again
 pub mod Cutting
+pub mod EffectLaws
 pub mod Lists
+pub mod MemberLaws
+pub mod ScopeLaws
 pub mod Sound
 pub mod Splitting
 pub mod Steps

@@ -16,6 +16,13 @@ use Rattle.promise_grammar.specs.declared.mark.UniqueContent.{UniqueContent}
 use Rattle.promise_grammar.specs.declared.mark.UniqueContent.TheVariants as unique_at
 use Rattle.promise_grammar.specs.declared.mark.BorrowedContent.{BorrowedContent}
 use Rattle.promise_grammar.specs.declared.mark.BorrowedContent.TheVariants as borrowed_at
+use Rattle.promise_grammar.specs.declared.scope.NamePattern.{NamePattern}
+use Rattle.promise_grammar.specs.declared.scope.NamePattern.TheVariants as pattern
+use Rattle.promise_grammar.specs.declared.scope.ScopeContent.{ScopeContent}
+use Rattle.promise_grammar.specs.declared.scope.ScopeContent.TheVariants as scope
+use Rattle.promise_grammar.specs.declared.member.MemberName.{MemberName}
+use Rattle.promise_grammar.specs.declared.member.MemberName.TheVariants as member
+use Rattle.promise_grammar.specs.declared.member.MemberContent.{MemberContent}
 use Rattle.promise_grammar.specs.Word.{is_name}
 use Rattle.promise_grammar.specs.Piece.{Piece, Word, Sign}
 
@@ -134,3 +141,46 @@ unique_words unique_at.Return = Word (codes "return") ∷ []
 abbrev pub borrowed_words : BorrowedContent → List Piece
 borrowed_words borrowed_at.Place = []
 borrowed_words borrowed_at.This = Word (codes "this") ∷ []
+
+-- ---- scopes: `W`, `W(**)`, `W()` and `new(**)`, W being a name with at most one star in it, or a star
+
+abbrev pub pattern_word : NamePattern → List ℕ
+pattern_word (pattern.Exactly name) = name
+pattern_word pattern.Any = 42 ∷ []
+pattern_word (pattern.Starred name at) = take at name ++ (42 ∷ drop at name)
+
+-- without its star it is a name, and the star stands in it, before it or after it
+abbrev pub IsPattern : NamePattern → Type 0
+IsPattern (pattern.Exactly name) = IsName name
+IsPattern pattern.Any = Unit {0}
+IsPattern (pattern.Starred name at) = IsName name × (at ≤ length name)
+
+abbrev pub scope_words : ScopeContent → List Piece
+scope_words (scope.Fields w) = Word (pattern_word w) ∷ []
+scope_words (scope.Methods w) = Word (pattern_word w) ∷ Sign 40 ∷ Word (codes "**") ∷ Sign 41 ∷ []
+scope_words (scope.PlainMethods w) = Word (pattern_word w) ∷ Sign 40 ∷ Sign 41 ∷ []
+scope_words scope.Constructors = Word (codes "new") ∷ Sign 40 ∷ Word (codes "**") ∷ Sign 41 ∷ []
+
+abbrev pub IsScope : ScopeContent → Type 0
+IsScope (scope.Fields w) = IsPattern w
+IsScope (scope.Methods w) = IsPattern w
+IsScope (scope.PlainMethods w) = IsPattern w
+IsScope scope.Constructors = Unit {0}
+
+-- ---- members: `name/count in class`, or `new` for the name
+
+abbrev pub member_name_word : MemberName → List ℕ
+member_name_word (member.Named name) = name
+member_name_word member.New = codes "new"
+
+abbrev pub IsMemberName : MemberName → Type 0
+IsMemberName (member.Named name) = IsName name
+IsMemberName member.New = Unit {0}
+
+-- with the digits that spell its count
+abbrev pub member_words : MemberContent → List ℕ → List Piece
+member_words m digits = Word (member_name_word m.name) ∷ Sign 47 ∷ Word digits ∷ Word (codes "in") ∷ Word m.class ∷ []
+
+pub record IsMember (m : MemberContent) : Type 0 where
+  pub name : IsMemberName m.name
+  pub class : IsName m.class

@@ -46,6 +46,11 @@ abbrev pub Answers : {A : Type 0} → Option A → Result A PromiseError → Typ
 Answers answer (Ok a) = answer ≡ Some a
 Answers answer (Err e) = e ≡ error.Grammar → answer ≡ None
 
+-- the same of what a view shows of it
+abbrev pub AnswersBy : {A B : Type 0} → (A → B) → Option B → Result A PromiseError → Type 0
+AnswersBy view answer (Ok a) = answer ≡ Some (view a)
+AnswersBy view answer (Err e) = e ≡ error.Grammar → answer ≡ None
+
 -- the answer, where there is one
 abbrev pub settled : {A : Type 0} → Option A → Reader A
 settled None = λ ps. Lost

@@ -23,11 +23,18 @@ use Rattle.promise_grammar.specs.declared.scope.ScopeContent.TheVariants as scop
 use Rattle.promise_grammar.specs.declared.member.MemberName.{MemberName}
 use Rattle.promise_grammar.specs.declared.member.MemberName.TheVariants as member_of
 use Rattle.promise_grammar.specs.declared.member.MemberContent.{MemberContent}
+use Rattle.promise_grammar.specs.declared.kind.PromiseKind.{PromiseKind}
+use Rattle.promise_grammar.specs.declared.kind.PromiseKind.TheVariants as kind
+use Rattle.promise_grammar.specs.declared.layer.Layer.{Layer}
+use Rattle.promise_grammar.specs.declared.layer.Layer.TheVariants as layer
+use Rattle.promise_grammar.specs.declared.tree.PromiseTree.{PromiseTree}
+use Rattle.promise_grammar.specs.declared.tree.PromiseTree.TheVariants as tree
+use Rattle.promise_grammar.specs.Kind.{kind_named}
 use Rattle.promise_grammar.specs.Word.{is_name}
-use Rattle.promise_grammar.specs.Split.{first_split}
+use Rattle.promise_grammar.specs.Split.{first_split, closing_split}
 use Rattle.promise_grammar.specs.Count.{count_of}
-use Rattle.promise_grammar.specs.Piece.{Piece}
-use Rattle.promise_grammar.specs.Outcome.{Outcome, Found, Lost, Reader, and_then, ◌>>=◌, ◌>>◌, ◌<$>◌, pure, lost, settled, word, name, eat_word, eat_sign, expect_word, expect_sign}
+use Rattle.promise_grammar.specs.Piece.{Piece, cut}
+use Rattle.promise_grammar.specs.Outcome.{Outcome, Found, Lost, Reader, is_over, and_then, ◌>>=◌, ◌>>◌, ◌<$>◌, pure, lost, settled, word, name, eat_word, eat_sign, expect_word, expect_sign, expect_end}
 
 -- ---- lists
 
@@ -208,3 +215,81 @@ member = do
   expect_word (codes "in")
   k ← name
   pure (record { name = m; count = n; class = k })
+
+-- ---- trees of a content's words
+
+unfoldable pub tree_of : PromiseKind → Reader PromiseTree
+tree_of kind.Region = tree.Region <$> region
+tree_of kind.InRegion = tree.InRegion <$> name
+tree_of kind.RegionLock = tree.RegionLock <$> region_lock
+tree_of kind.RequiresLock = tree.RequiresLock <$> separated lock_item
+tree_of kind.Unique = tree.Unique <$> unique
+tree_of kind.Borrowed = tree.Borrowed <$> borrowed
+tree_of kind.RegionEffects = tree.RegionEffects <$> effects
+tree_of kind.Starts = expect_word (codes "nothing") >> pure tree.Starts
+tree_of kind.Promise = lost
+tree_of kind.Assume = lost
+tree_of kind.Vouch = lost
+
+-- what a reader finds, where nothing follows it
+abbrev pub if_over : {A : Type 0} → Outcome A → Option A
+if_over (Found a rest) = if is_over rest then Some a else None
+if_over Lost = None
+
+abbrev pub whole : {A : Type 0} → Reader A → List Piece → Option A
+whole read ps = if_over (read ps)
+
+unfoldable pub words_tree : PromiseKind → List ℕ → Option PromiseTree
+words_tree k content = whole (tree_of k) (cut content)
+
+-- ---- layers
+
+unfoldable pub annotation : Reader PromiseKind
+annotation = do
+  expect_sign 64
+  w ← word
+  settled (kind_named w)
+
+unfoldable pub tail : PromiseKind → Reader Layer
+tail kind.Promise = expect_word (codes "for") >> (layer.Promise <$> scope)
+tail kind.Assume = expect_word (codes "for") >> (layer.Assume <$> member)
+tail kind.Region = lost
+tail kind.InRegion = lost
+tail kind.RegionLock = lost
+tail kind.RequiresLock = lost
+tail kind.Unique = lost
+tail kind.Borrowed = lost
+tail kind.RegionEffects = lost
+tail kind.Starts = lost
+tail kind.Vouch = lost
+
+-- a layer, the kind of the promise in it, and that one's content
+abbrev pub Opened : Type 0
+Opened = Layer × PromiseKind × List ℕ
+
+-- without a content
+unfoldable pub bare : PromiseKind → Reader Opened
+bare k = do
+  inner ← annotation
+  l ← tail k
+  pure (l, inner, [])
+
+abbrev pub closed_by : Option PromiseKind → List ℕ → Option Layer → Option Opened
+closed_by None text l = None
+closed_by (Some inner) text None = None
+closed_by (Some inner) text (Some l) = Some (l, inner, text)
+
+abbrev pub named_by : PromiseKind → List ℕ → Option (List ℕ × List ℕ) → Option Opened
+named_by k rest None = None
+named_by k rest (Some p) = closed_by (whole annotation (cut p.0)) p.1 (whole (tail k) (cut rest))
+
+-- with a content in parentheses
+unfoldable pub enclosing : PromiseKind → List ℕ → List ℕ → Option Opened
+enclosing k front rest = named_by k rest (first_split 40 front)
+
+abbrev pub opened_by : PromiseKind → List ℕ → Option (List ℕ × List ℕ) → Option Opened
+opened_by k content None = whole (bare k) (cut content)
+opened_by k content (Some p) = enclosing k p.0 p.1
+
+unfoldable pub opened : PromiseKind → List ℕ → Option Opened
+opened k content = opened_by k content (closing_split content)

@@ -1,6 +1,6 @@
 ghost use Rattle.std.specs.Prelude.{◌≡◌, ◌≢◌, IfSome, IfNone};
 ghost use Rattle.promise_grammar.specs.declared.kind.PromiseKind.{PromiseKind};
-ghost use Rattle.promise_grammar.specs.Kind.{name_of, kind_text};
+ghost use Rattle.promise_grammar.specs.Kind.{name_of, kind_text, kind_named};
 
 use desk_base::PromiseName;
 
@@ -43,6 +43,7 @@ impl PromiseKind {
     /// The kind of that written name.
     pub fn from_text(text: &[u8]) -> Option<PromiseKind>
         ensures found { IfSome result (λ kind. text.now ≡ kind_text kind) }
+        ensures value { result ≡ kind_named text.now }
         ensures none { IfNone result ((kind : PromiseKind) → text.now ≢ kind_text kind) }
     {
         if text == b"Region".as_slice() {

@@ -6,11 +6,13 @@
 mod effects;
 mod error;
 mod kind;
+mod layer;
 mod lock;
 mod mark;
 mod member;
 mod names;
 mod pieces;
+mod plain;
 mod region;
 mod scope;
 mod split;
