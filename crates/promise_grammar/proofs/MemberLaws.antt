@@ -25,14 +25,14 @@ below a b e = grind arith
 
 count_from_found : (ds : List ℕ) (n m : ℕ) → n < 2147483648 → count_from n ds ≡ Some m → Counted n ds m
 count_from_found [] n m small e = let same : n ≡ m = cc in (refl, same, omega arith)
-count_from_found (d ∷ ds) n m small e = by (is_ascii_digit d && ltb (n * 10 + (d - 48)) 2147483648) refl e
+count_from_found (d ∷ ds) n m small e = by (is_ascii_digit d && ltb (n * 10 + (d - 48)) 2147483648) (count_from_found ds (n * 10 + (d - 48)) m) refl e
   where
-    by : (t : Bool) → (is_ascii_digit d && ltb (n * 10 + (d - 48)) 2147483648) ≡ t → cond t (count_from (n * 10 + (d - 48)) ds) None ≡ Some m → Counted n (d ∷ ds) m
-    by true both f =
+    by : (t : Bool) → (n * 10 + (d - 48) < 2147483648 → count_from (n * 10 + (d - 48)) ds ≡ Some m → Counted (n * 10 + (d - 48)) ds m) → (is_ascii_digit d && ltb (n * 10 + (d - 48)) 2147483648) ≡ t → cond t (count_from (n * 10 + (d - 48)) ds) None ≡ Some m → Counted n (d ∷ ds) m
+    by true again both f =
         let each = both_true (is_ascii_digit d) (ltb (n * 10 + (d - 48)) 2147483648) both in
-        let later = count_from_found ds (n * 10 + (d - 48)) m (below _ _ each.1) f in
+        let later = again (below (n * 10 + (d - 48)) 2147483648 each.1) f in
         (rw (each.0, later.0) refl, later.1, later.2)
-    by false both f = cc
+    by false again both f = cc
 
 grows : (ds : List ℕ) (n : ℕ) → n ≤ value_from n ds
 grows [] n = omega arith
@@ -50,7 +50,7 @@ count_from_finds (d ∷ ds) n m is =
     let small : m < 2147483648 = is.2 in
     let step : n * 10 + (d - 48) < 2147483648 = omega arith in
     let later : count_from (n * 10 + (d - 48)) ds ≡ Some m = count_from_finds ds (n * 10 + (d - 48)) m (each.1, value, small) in
-    rw (each.0, above _ _ step) later
+    rw (each.0, above (n * 10 + (d - 48)) 2147483648 step) later
 
 pub count_found : (ds : List ℕ) (m : ℕ) → count_of ds ≡ Some m → IsCount ds m
 count_found [] m e = cc

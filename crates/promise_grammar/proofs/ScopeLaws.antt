@@ -1,14 +1,14 @@
 -- Scopes: what their reader finds is spelled so, and what is spelled is found.
-use Rattle.std.proofs.Common.{◌≡◌, ◌⊎◌, inl, inr, ℕ, zero, suc, ◌+◌, ◌<◌, ◌≤◌, Bool, true, false, cond, ◌&&◌, eqb, List, [], ◌∷◌, ◌++◌, length, take, drop, Option, Some, None, codes, refl, sym, ap, ◌∙◌, subst, append_assoc, append-nil, arith, rules}
+use Rattle.std.proofs.Common.{◌≡◌, ◌⊎◌, inl, inr, ℕ, zero, suc, ◌+◌, ◌<◌, ◌≤◌, Bool, true, false, not, cond, ◌&&◌, eqb, List, [], ◌∷◌, ◌++◌, length, take, drop, Option, Some, None, codes, refl, sym, ap, ◌∙◌, subst, append_assoc, append-nil, arith, rules}
 use Rattle.std.specs.List.{list_all}
 use Rattle.std.specs.Str.{bytes_eq}
-use Rattle.std.proofs.Math.Seq.{drop-append_seam}
-use Rattle.std.proofs.lemmas.List.{take-append-drop, take-append_seam, length-take-le}
+use Rattle.std.proofs.Math.Seq.{drop-append_seam, take-append_seam}
+use Rattle.std.proofs.lemmas.List.{take-append-drop, length-append, length-take-le}
 use Rattle.promise_grammar.specs.declared.scope.NamePattern.{NamePattern}
 use Rattle.promise_grammar.specs.declared.scope.NamePattern.TheVariants as pat
 use Rattle.promise_grammar.specs.declared.scope.ScopeContent.{ScopeContent}
 use Rattle.promise_grammar.specs.declared.scope.ScopeContent.TheVariants as scp
-use Rattle.promise_grammar.specs.Word.{is_name, is_name_byte, is_reserved}
+use Rattle.promise_grammar.specs.Word.{is_name, is_name_byte, is_reserved, begins_name}
 use Rattle.promise_grammar.specs.Piece.{Piece, Word, Sign}
 use Rattle.promise_grammar.specs.Split.{first_split, longer_front}
 use Rattle.promise_grammar.specs.Outcome.{Outcome, Found, Lost, Reader, and_then, pure, settled, word, sees_word, sees_sign, after, eaten}
@@ -40,15 +40,15 @@ first_split_is s (b ∷ bs) p e = split_by s b bs p (eqb b s) refl (first_split_
 -- the byte doesn't stand in the front
 pub first_split_here : (s : ℕ) (front rest : List ℕ) → first_split s front ≡ None → first_split s (front ++ (s ∷ rest)) ≡ Some (front, rest)
 first_split_here s [] rest none = let same : eqb s s ≡ true = grind arith in rw same refl
-first_split_here s (b ∷ front) rest none = by (eqb b s) refl none
+first_split_here s (b ∷ front) rest none = by (eqb b s) (first_split_here s front rest) refl none
   where
     later : (o : Option (List ℕ × List ℕ)) → longer_front b o ≡ None → o ≡ None
     later None e = refl
     later (Some q) e = cc
-    by : (t : Bool) → eqb b s ≡ t → cond t (Some ([], front)) (longer_front b (first_split s front)) ≡ None
+    by : (t : Bool) → (first_split s front ≡ None → first_split s (front ++ (s ∷ rest)) ≡ Some (front, rest)) → eqb b s ≡ t → cond t (Some ([], front)) (longer_front b (first_split s front)) ≡ None
         → cond t (Some ([], front ++ (s ∷ rest))) (longer_front b (first_split s (front ++ (s ∷ rest)))) ≡ Some (b ∷ front, rest)
-    by true same e = cc
-    by false same e = rw (first_split_here s front rest (later (first_split s front) e)) refl
+    by true again same e = cc
+    by false again same e = rw (again (later (first_split s front) e)) refl
 
 -- ---- patterns
 
@@ -68,7 +68,7 @@ no_star (b ∷ bs) is =
 
 name_bytes : (w : List ℕ) → IsName w → list_all is_name_byte w ≡ true
 unfolding is_name
-name_bytes w is = (both_true _ _ (both_true _ _ is).1).0
+name_bytes w is = (both_true (begins_name w) (list_all is_name_byte w) (both_true (begins_name w && list_all is_name_byte w) (not (is_reserved w)) is).0).1
 
 take_bytes : (bs : List ℕ) (at : ℕ) → list_all is_name_byte bs ≡ true → list_all is_name_byte (take at bs) ≡ true
 take_bytes bs zero is = refl
@@ -95,7 +95,8 @@ starred_found before rest p e = by (is_nil before && is_nil rest) refl e
     named : (t : Bool) → is_name (before ++ rest) ≡ t → cond t (Some (pat.Starred (before ++ rest) (length before))) None ≡ Some p → Spelled (before ++ (42 ∷ rest)) p
     named true is f =
         let same : pat.Starred (before ++ rest) (length before) ≡ p = cc in
-        let within : length before ≤ length (before ++ rest) = grind arith in
+        let sum = length-append before rest in
+        let within : length before ≤ length (before ++ rest) = omega (arith, sum) in
         let spelled : before ++ (42 ∷ rest) ≡ take (length before) (before ++ rest) ++ (42 ∷ drop (length before) (before ++ rest)) = rw (take-append_seam before rest, drop-append_seam before rest) refl in
         subst (λ (q : NamePattern). Spelled (before ++ (42 ∷ rest)) q) same (spelled, (is, within))
     named false is f = cc
@@ -119,7 +120,7 @@ pattern_found w p e = by (first_split 42 w) refl e
 
 not_nil : (w a b : List ℕ) → w ≡ a ++ b → IsName w → (is_nil a && is_nil b) ≡ false
 unfolding is_name
-not_nil w [] [] e is = let named : is_name [] ≡ true = rw (← e) is in cc
+not_nil w [] [] e is = let named : false ≡ true = subst (λ (v : List ℕ). is_name v ≡ true) e is in cc
 not_nil w [] (y ∷ b) e is = refl
 not_nil w (x ∷ a) b e is = refl
 
@@ -197,9 +198,9 @@ not_new (pat.Starred n at) is = by (bytes_eq (pattern_word (pat.Starred n at)) (
   where
     by : (t : Bool) → bytes_eq (take at n ++ (42 ∷ drop at n)) (codes "new") ≡ t → t ≡ false
     by true same =
-        let split = first_split_here 42 (take at n) (drop at n) (no_star (take at n) (take_bytes n at (name_bytes n is.0))) in
-        let spelled : take at n ++ (42 ∷ drop at n) ≡ codes "new" = bytes_same _ (codes "new") same in
-        let clash : Some (take at n, drop at n) ≡ None = sym split ∙ ap (first_split 42) spelled in
+        let split : first_split 42 (take at n ++ (42 ∷ drop at n)) ≡ Some (take at n, drop at n) = first_split_here 42 (take at n) (drop at n) (no_star (take at n) (take_bytes n at (name_bytes n is.0))) in
+        let spelled : take at n ++ (42 ∷ drop at n) ≡ codes "new" = bytes_same (take at n ++ (42 ∷ drop at n)) (codes "new") same in
+        let none : first_split 42 (take at n ++ (42 ∷ drop at n)) ≡ None = ap (first_split 42) spelled in
         cc
     by false same = refl
 
