@@ -1,6 +1,6 @@
 -- Reading a content from the outside in, and its tree from the inside out.
 use Rattle.std.specs.Prelude.{◌≡◌, ℕ, Bool, true, false, List, [], ◌∷◌, Result, Ok, Err}
-use Rattle.std.specs.Prelude.{Bor}
+use Rattle.std.specs.Borrow.{Bor}
 use Rattle.promise_grammar.specs.declared.error.PromiseError.{PromiseError}
 use Rattle.promise_grammar.specs.declared.error.PromiseError.TheVariants as error
 use Rattle.promise_grammar.specs.declared.kind.PromiseKind.{PromiseKind}
