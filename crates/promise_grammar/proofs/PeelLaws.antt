@@ -66,8 +66,8 @@ wrapped-push : (ls : List Layer) (l : Layer) (t : PromiseTree) → wrapped (ls +
 wrapped-push [] l t = refl
 wrapped-push (x ∷ ls) l t = ap (around x) (wrapped-push ls l t)
 
-pub one_off : (ls more : List Layer) (l : Layer) (old new t core : PromiseTree) → ls ≡ more ++ l ∷ [] → new ≡ around l old → wrapped ls old ≡ t → wrapped more new ≡ t
-one_off ls more l old new t core last made is = ap (wrapped more) made ∙ sym (wrapped-push more l old) ∙ ap (λ (xs : List Layer). wrapped xs old) (sym last) ∙ is
+pub one_off : (ls more : List Layer) (l : Layer) (old new t : PromiseTree) → ls ≡ more ++ l ∷ [] → new ≡ around l old → wrapped ls old ≡ t → wrapped more new ≡ t
+one_off ls more l old new t last made is = ap (wrapped more) made ∙ sym (wrapped-push more l old) ∙ ap (λ (xs : List Layer). wrapped xs old) (sym last) ∙ is
 
 -- what the outermost layer is, is fixed by the content
 one_layer : (k : PromiseKind) (content : List ℕ) (l : Layer) (i : PromiseKind) (text : List ℕ) (t : PromiseTree) → nests k ≡ true → opened k content ≡ Some (l, i, text) → ReadsPromise k content t
@@ -148,9 +148,57 @@ plain_same kind.Borrowed content a b p q = let x = plain_finds kind.Borrowed con
 plain_same kind.RegionEffects content a b p q = let x = plain_finds kind.RegionEffects content a (λ e. cc) p in let y = plain_finds kind.RegionEffects content b (λ e. cc) q in cc
 plain_same kind.Starts content a b p q = let x = plain_finds kind.Starts content a (λ e. cc) p in let y = plain_finds kind.Starts content b (λ e. cc) q in cc
 
+plain_kind : (k : PromiseKind) (content : List ℕ) (t : PromiseTree) → Plain k content t → nests k ≡ false
+plain_kind kind.Promise content t p = absurd p
+plain_kind kind.Assume content t p = absurd p
+plain_kind kind.Region content t p = refl
+plain_kind kind.InRegion content t p = refl
+plain_kind kind.RegionLock content t p = refl
+plain_kind kind.RequiresLock content t p = refl
+plain_kind kind.Unique content t p = refl
+plain_kind kind.Borrowed content t p = refl
+plain_kind kind.RegionEffects content t p = refl
+plain_kind kind.Starts content t p = refl
+plain_kind kind.Vouch content t p = refl
+
 nested_same : (n : ℕ) (k : PromiseKind) (content : List ℕ) (a b : PromiseTree) → Nested n k content a → ReadsPromise k content b → a ≡ b
-nested_same n k content a b p r = ?
+nested_same zero k content a b p r = plain_same k content a b p (innermost k content b (plain_kind k content a p) r)
+nested_same (suc n) kind.Promise content a b p r =
+    let opens : Opens kind.Promise content (lay.Promise p.scope) p.inner_kind p.text = (Word (codes "for") ∷ scope_words p.scope, (p.lawful, refl), p.holds) in
+    let found = opened_finds kind.Promise content (lay.Promise p.scope) p.inner_kind p.text opens in
+    let q = one_layer kind.Promise content (lay.Promise p.scope) p.inner_kind p.text b refl found r in
+    let same = nested_same n p.inner_kind p.text p.inner q.0 p.spells q.1 in
+    p.is ∙ ap (λ (t : PromiseTree). tree.Promise t p.scope) same ∙ sym q.2
+nested_same (suc n) kind.Assume content a b p r =
+    let opens : Opens kind.Assume content (lay.Assume p.member) p.inner_kind p.text = (Word (codes "for") ∷ member_words p.member p.digits, (p.digits, p.counted, p.lawful, refl), p.holds) in
+    let found = opened_finds kind.Assume content (lay.Assume p.member) p.inner_kind p.text opens in
+    let q = one_layer kind.Assume content (lay.Assume p.member) p.inner_kind p.text b refl found r in
+    let same = nested_same n p.inner_kind p.text p.inner q.0 p.spells q.1 in
+    p.is ∙ ap (λ (t : PromiseTree). tree.Assume t p.member) same ∙ sym q.2
+nested_same (suc n) kind.Region content a b p r = absurd p
+nested_same (suc n) kind.InRegion content a b p r = absurd p
+nested_same (suc n) kind.RegionLock content a b p r = absurd p
+nested_same (suc n) kind.RequiresLock content a b p r = absurd p
+nested_same (suc n) kind.Unique content a b p r = absurd p
+nested_same (suc n) kind.Borrowed content a b p r = absurd p
+nested_same (suc n) kind.RegionEffects content a b p r = absurd p
+nested_same (suc n) kind.Starts content a b p r = absurd p
+nested_same (suc n) kind.Vouch content a b p r = absurd p
 
 pub same_tree : (k : PromiseKind) (content : List ℕ) (a b : PromiseTree) → ReadsPromise k content a → ReadsPromise k content b → a ≡ b
 unfolding ReadsPromise
 same_tree k content a b r s = nested_same r.0 k content a b r.1 s
+
+-- ---- the answer
+
+pub answered : (k : PromiseKind) (content : List ℕ) (ls : List Layer) (i : PromiseKind) (text : List ℕ) (core t : PromiseTree)
+    → Peeled k content ls i text → Plain i text core → t ≡ wrapped ls core → ReadsPromise k content t × ((other : PromiseTree) → ReadsPromise k content other → other ≡ t)
+answered k content ls i text core t peeled plain is =
+    let spelled : ReadsPromise k content t = subst (λ (u : PromiseTree). ReadsPromise k content u) (sym is) (peeled.outward core (plain_spells i text core plain)) in
+    (spelled, λ (other : PromiseTree) r. same_tree k content other t r spelled)
+
+pub unanswered : (k : PromiseKind) (content : List ℕ) (ls : List Layer) (i : PromiseKind) (text : List ℕ)
+    → Peeled k content ls i text → nests i ≡ false → ((t : PromiseTree) → Plain i text t → ⊥) → SpellsNone k content
+unanswered k content ls i text peeled plain none t r =
+    let p = peeled.inward t r in
+    none p.0 (innermost i text p.0 plain p.1)
