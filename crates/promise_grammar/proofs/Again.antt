@@ -1,7 +1,5 @@
 -- What is spelled is found again by the form's reader.
-use Rattle.std.proofs.Common.{◌≡◌, ◌⊎◌, inl, inr, ℕ, zero, suc, ◌+◌, ◌<◌, ◌≤◌, Bool, true, false, cond, List, [], ◌∷◌, ◌++◌, length, Option, Some, None, IfSome, codes, refl, sym, ap, ◌∙◌, subst, append_assoc, append-nil, arith, rules}
-use Rattle.std.specs.List.{AllByRecursion}
-use Rattle.std.specs.Str.{bytes_eq}
+use Rattle.std.proofs.Common.{◌≡◌, ℕ, Bool, true, false, List, [], ◌∷◌, ◌++◌, Option, Some, None, IfSome, codes, refl}
 use Rattle.promise_grammar.specs.declared.region.RegionContent.{RegionContent}
 use Rattle.promise_grammar.specs.declared.region.Visibility.{Visibility}
 use Rattle.promise_grammar.specs.declared.region.Visibility.TheVariants as visible
@@ -12,11 +10,10 @@ use Rattle.promise_grammar.specs.declared.lock.LockItem.{LockItem}
 use Rattle.promise_grammar.specs.declared.lock.LockItem.TheVariants as lock
 use Rattle.promise_grammar.specs.declared.effects.EffectTarget.{EffectTarget}
 use Rattle.promise_grammar.specs.declared.effects.EffectTarget.TheVariants as effect
-use Rattle.promise_grammar.specs.declared.effects.EffectsContent.{EffectsContent}
 use Rattle.promise_grammar.specs.Piece.{Piece, Word, Sign}
 use Rattle.promise_grammar.specs.Word.{is_reserved, is_name}
-use Rattle.promise_grammar.specs.Outcome.{Outcome, Found, Lost, Reader, and_then, ◌<$>◌, pure, name, sees_word, sees_sign, after, eaten, eat_word, eat_sign, expect_word, expect_sign}
-use Rattle.promise_grammar.specs.Form.{IsName, visibility_words, static_words, parent_words, region_words, IsRegion, holder_words, IsHolder, region_lock_words, IsRegionLock, lock_item_words, IsLockItem, target_words, IsTarget, later_words, list_words, IsList}
+use Rattle.promise_grammar.specs.Outcome.{Found, sees_word, sees_sign, eaten}
+use Rattle.promise_grammar.specs.Form.{IsName, visibility_words, static_words, parent_words, region_words, IsRegion, holder_words, IsHolder, region_lock_words, IsRegionLock, lock_item_words, IsLockItem, target_words, IsTarget}
 use Rattle.promise_grammar.specs.Reading.{visibility, parent, region, this_holder, holder, region_lock, lock_item, any_target, named_target, target}
 use Rattle.promise_grammar.proofs.Steps.{name_finds, name_apart}
 
@@ -84,8 +81,11 @@ holder_finds (holding.ThisField n) w ps is = rw (name_finds n (Word w ∷ ps) is
 pub region_lock_finds : (r : RegionLockContent) → IsRegionLock r → region_lock (region_lock_words r) ≡ Found r []
 unfolding region_lock
 region_lock_finds r is =
-    rw (name_finds r.name (Word (codes "is") ∷ (holder_words r.holder ++ (Word (codes "protects") ∷ Word r.region ∷ []))) is.name,
-      holder_finds r.holder (codes "protects") (Word r.region ∷ []) is.holder, name_finds r.region [] is.region) refl
+    rw (
+      name_finds r.name (Word (codes "is") ∷ (holder_words r.holder ++ (Word (codes "protects") ∷ Word r.region ∷ []))) is.name,
+      holder_finds r.holder (codes "protects") (Word r.region ∷ []) is.holder,
+      name_finds r.region [] is.region,
+    ) refl
 
 -- ---- RequiresLock
 

@@ -1,12 +1,11 @@
 -- How a content is cut: what its first piece is.
-use Rattle.std.proofs.Common.{◌≡◌, ℕ, zero, suc, ◌+◌, ◌<◌, ◌≤◌, Bool, true, false, cond, List, [], ◌∷◌, ◌++◌, length, take, drop, refl, sym, ap, ◌∙◌, arith, rules, ◌||◌, ◌-◌, get_or}
+use Rattle.std.proofs.Common.{◌≡◌, ℕ, suc, ◌+◌, ◌<◌, ◌≤◌, Bool, true, false, cond, List, [], ◌∷◌, length, take, drop, refl, sym, ap, ◌∙◌, arith, ◌-◌, get_or}
 use Rattle.std.proofs.Math.Seq.{take-length}
 use Rattle.std.proofs.lemmas.List.{length-drop}
-use Rattle.std.proofs.lemmas.Bool.{false≢true}
 use Rattle.std.specs.List.{prefix_len}
 use Rattle.std.proofs.lemmas.Grind.{common_steps}
 use Rattle.promise_grammar.specs.Word.{is_blank, is_word_byte}
-use Rattle.promise_grammar.specs.Piece.{Piece, Word, Sign, begins_word, begins_blank, lengthened, joined, cut}
+use Rattle.promise_grammar.specs.Piece.{Word, Sign, begins_word, begins_blank, joined, cut}
 
 -- a blank is no byte of a word
 pub blank_apart : (b : ℕ) → is_blank b ≡ true → is_word_byte b ≡ false

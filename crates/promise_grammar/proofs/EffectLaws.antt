@@ -1,5 +1,5 @@
 -- RegionEffects, Unique and Borrowed: what their readers find is spelled so, and what is spelled is found.
-use Rattle.std.proofs.Common.{◌≡◌, ◌⊎◌, inl, inr, ℕ, zero, suc, ◌+◌, ◌<◌, ◌≤◌, Bool, true, false, cond, List, [], ◌∷◌, ◌++◌, length, codes, refl, sym, ap, ◌∙◌, subst, append_assoc, append-nil, arith, rules}
+use Rattle.std.proofs.Common.{◌≡◌, ◌⊎◌, inl, inr, ◌<◌, Bool, true, false, cond, List, [], ◌∷◌, ◌++◌, length, codes, refl, sym, ap, ◌∙◌, append_assoc, append-nil, arith}
 use Rattle.std.specs.List.{AllByRecursion}
 use Rattle.promise_grammar.specs.declared.lock.LockItem.{LockItem}
 use Rattle.promise_grammar.specs.declared.lock.LockItem.TheVariants as lock
@@ -11,10 +11,10 @@ use Rattle.promise_grammar.specs.declared.mark.UniqueContent.TheVariants as uniq
 use Rattle.promise_grammar.specs.declared.mark.BorrowedContent.{BorrowedContent}
 use Rattle.promise_grammar.specs.declared.mark.BorrowedContent.TheVariants as borrowed_at
 use Rattle.promise_grammar.specs.Piece.{Piece, Word, Sign}
-use Rattle.promise_grammar.specs.Outcome.{Outcome, Found, Lost, Reader, and_then, ◌<$>◌, pure, sees_word, sees_sign, after, eaten}
+use Rattle.promise_grammar.specs.Outcome.{Found, sees_word, sees_sign, eaten}
 use Rattle.promise_grammar.specs.Form.{IsList, list_words, lock_item_words, IsLockItem, target_words, IsTarget, writes_words, both_words, effects_words, IsEffects, unique_words, borrowed_words}
 use Rattle.promise_grammar.specs.Reading.{separated, lock_item, target, more_writes, both, effects, unique, borrowed}
-use Rattle.promise_grammar.proofs.Steps.{then_found, pure_is, word_seen, eaten_word, eaten_sign, expected_word, expected_sign}
+use Rattle.promise_grammar.proofs.Steps.{then_found, pure_is, word_seen, eaten_word, eaten_sign, expected_word}
 use Rattle.promise_grammar.proofs.Sound.{Begins, Sound, lock_item_found, target_found}
 use Rattle.promise_grammar.proofs.Again.{lock_item_finds, target_finds}
 use Rattle.promise_grammar.proofs.Lists.{separated_found, separated_finds}
@@ -75,43 +75,48 @@ more_writes_found : (ps : List Piece) (ws : List EffectTarget) (rest : List Piec
 unfolding more_writes
 more_writes_found ps ws rest e =
     elim (eaten_sign 59 _ _ ps ws rest e) [
-      inl a ↦ (let w = expected_word (codes "writes") _ a.0 ws rest a.2 in
-        let t = targets_found w.0 ws rest w.2 in
-        inr (a.1 ∙ ap (λ (r : List Piece). Sign 59 ∷ r) (w.1 ∙ ap (λ (r : List Piece). Word (codes "writes") ∷ r) t.0), t.1))
-    | inr b ↦ pure_is (λ (vs : List EffectTarget) (r : List Piece). MoreWrites ps vs r) [] ws ps rest b.1 (inl (refl, refl)) ]
+      | inl a ↦ (let w = expected_word (codes "writes") _ a.0 ws rest a.2 in
+          let t = targets_found w.0 ws rest w.2 in
+          inr (a.1 ∙ ap (λ (r : List Piece). Sign 59 ∷ r) (w.1 ∙ ap (λ (r : List Piece). Word (codes "writes") ∷ r) t.0), t.1))
+      | inr b ↦ pure_is (λ (vs : List EffectTarget) (r : List Piece). MoreWrites ps vs r) [] ws ps rest b.1 (inl (refl, refl))
+    ]
 
 reads_found : (ps : List Piece) (rs ws : List EffectTarget) (mid rest : List Piece) → Begins (list_words target_words) (IsList IsTarget) ps rs mid → MoreWrites mid ws rest
     → Begins effects_words IsEffects (Word (codes "reads") ∷ ps) (both rs ws) rest
 reads_found ps rs ws mid rest front (inl none) =
     let words : both_words rs ws ≡ Word (codes "reads") ∷ list_words target_words rs = ap (both_words rs) none.0 ∙ reads_alone rs front.1.some in
-    let lawful : AllByRecursion IsTarget ws = rw none.0 tt in
-    (ap (λ (r : List Piece). Word (codes "reads") ∷ r) (front.0 ∙ ap (λ (r : List Piece). list_words target_words rs ++ r) none.1) ∙ ap (λ (w : List Piece). w ++ rest) (sym words),
-      record { reads = front.1.each; writes = lawful })
+    let lawful : AllByRecursion IsTarget ws = rw none.0 tt in (
+      ap (λ (r : List Piece). Word (codes "reads") ∷ r) (front.0 ∙ ap (λ (r : List Piece). list_words target_words rs ++ r) none.1) ∙ ap (λ (w : List Piece). w ++ rest) (sym words),
+      record { reads = front.1.each; writes = lawful },
+    )
 reads_found ps rs ws mid rest front (inr some) =
-    let words = reads_and_writes rs ws front.1.some some.1.some in
-    (ap (λ (r : List Piece). Word (codes "reads") ∷ r)
-        (front.0 ∙ ap (λ (r : List Piece). list_words target_words rs ++ r) some.0 ∙ sym (append_assoc (list_words target_words rs) (Sign 59 ∷ writes_words ws) rest))
-      ∙ ap (λ (w : List Piece). w ++ rest) (sym words),
-      record { reads = front.1.each; writes = some.1.each })
+    let words = reads_and_writes rs ws front.1.some some.1.some in (
+      ap (λ (r : List Piece). Word (codes "reads") ∷ r)
+          (front.0 ∙ ap (λ (r : List Piece). list_words target_words rs ++ r) some.0 ∙ sym (append_assoc (list_words target_words rs) (Sign 59 ∷ writes_words ws) rest))
+          ∙ ap (λ (w : List Piece). w ++ rest) (sym words),
+      record { reads = front.1.each; writes = some.1.each },
+    )
 
 pub effects_found : Sound effects_words IsEffects effects
 unfolding effects
 effects_found ps x rest e =
     let P : EffectsContent → List Piece → Type 0 = λ y r. Begins effects_words IsEffects ps y r in
     elim (eaten_word (codes "reads") _ _ ps x rest e) [
-      inl a ↦ (let rs = then_found (separated target a.0) _ x rest a.2 in
-        let t = targets_found a.0 rs.0 rs.1 rs.2 in
-        let ws = then_found (more_writes rs.1) _ x rest rs.3 in
-        let m = more_writes_found rs.1 ws.0 ws.1 ws.2 in
-        let all = reads_found a.0 rs.0 ws.0 rs.1 ws.1 t m in
-        pure_is P (both rs.0 ws.0) x ws.1 rest ws.3 (a.1 ∙ all.0, all.1))
-    | inr b ↦ elim (eaten_word (codes "writes") _ _ ps x rest b.1) [
-        inl a ↦ (let ws = then_found (separated target a.0) _ x rest a.2 in
-          let t = targets_found a.0 ws.0 ws.1 ws.2 in
-          pure_is P (both [] ws.0) x ws.1 rest ws.3
+      | inl a ↦ (let rs = then_found (separated target a.0) _ x rest a.2 in
+          let t = targets_found a.0 rs.0 rs.1 rs.2 in
+          let ws = then_found (more_writes rs.1) _ x rest rs.3 in
+          let m = more_writes_found rs.1 ws.0 ws.1 ws.2 in
+          let all = reads_found a.0 rs.0 ws.0 rs.1 ws.1 t m in
+          pure_is P (both rs.0 ws.0) x ws.1 rest ws.3 (a.1 ∙ all.0, all.1))
+      | inr b ↦ elim (eaten_word (codes "writes") _ _ ps x rest b.1) [
+        | inl a ↦ (let ws = then_found (separated target a.0) _ x rest a.2 in
+            let t = targets_found a.0 ws.0 ws.1 ws.2 in
+            pure_is P (both [] ws.0) x ws.1 rest ws.3
             (a.1 ∙ ap (λ (r : List Piece). Word (codes "writes") ∷ r) t.0 ∙ ap (λ (w : List Piece). w ++ ws.1) (sym (writes_alone ws.0 t.1.some)), record { reads = tt; writes = t.1.each }))
-      | inr c ↦ (let n = expected_word (codes "none") _ ps x rest c.1 in
-          pure_is P (both [] []) x n.0 rest n.2 (n.1, record { reads = tt; writes = tt })) ] ]
+        | inr c ↦ (let n = expected_word (codes "none") _ ps x rest c.1 in
+            pure_is P (both [] []) x n.0 rest n.2 (n.1, record { reads = tt; writes = tt }))
+      ]
+    ]
 
 find_both : (rs ws : List EffectTarget) → AllByRecursion IsTarget rs → AllByRecursion IsTarget ws → effects (both_words rs ws) ≡ Found (both rs ws) []
 unfolding effects more_writes
@@ -125,8 +130,10 @@ find_both (r ∷ rs) [] is also =
 find_both (r ∷ rs) (w ∷ ws) is also =
     let some : 0 < length (r ∷ rs) = omega arith in
     let more : 0 < length (w ∷ ws) = omega arith in
-    rw (targets_find (r ∷ rs) (Sign 59 ∷ writes_words (w ∷ ws)) (record { some = some; each = is }) (refl, refl) refl,
-      last_targets_find (w ∷ ws) (record { some = more; each = also })) refl
+    rw (
+      targets_find (r ∷ rs) (Sign 59 ∷ writes_words (w ∷ ws)) (record { some = some; each = is }) (refl, refl) refl,
+      last_targets_find (w ∷ ws) (record { some = more; each = also }),
+    ) refl
 
 pub effects_find : (e : EffectsContent) → IsEffects e → effects (effects_words e) ≡ Found e []
 effects_find e is = find_both e.reads e.writes is.reads is.writes

@@ -1,5 +1,5 @@
 -- Layers: what is taken off a content stands round the text that is left, and what stands round it is taken off.
-use Rattle.std.proofs.Common.{◌≡◌, ◌⊎◌, inl, inr, ℕ, zero, suc, ◌+◌, ◌<◌, ◌≤◌, Bool, true, false, not, cond, ◌&&◌, ◌||◌, eqb, List, [], ◌∷◌, ◌++◌, length, Option, Some, None, codes, refl, sym, ap, ◌∙◌, subst, append_assoc, append-nil, length-append, arith, rules}
+use Rattle.std.proofs.Common.{◌≡◌, ◌⊎◌, inl, inr, ℕ, ◌<◌, Bool, true, false, not, cond, ◌&&◌, ◌||◌, eqb, List, [], ◌∷◌, ◌++◌, length, Option, Some, None, codes, refl, sym, ap, ◌∙◌, subst, append_assoc, append-nil, length-append, arith}
 use Rattle.std.specs.List.{list_all}
 use Rattle.std.specs.Str.{bytes_eq}
 use Rattle.promise_grammar.specs.declared.kind.PromiseKind.{PromiseKind}
@@ -8,13 +8,12 @@ use Rattle.promise_grammar.specs.declared.layer.Layer.{Layer}
 use Rattle.promise_grammar.specs.declared.layer.Layer.TheVariants as lay
 use Rattle.promise_grammar.specs.declared.scope.ScopeContent.{ScopeContent}
 use Rattle.promise_grammar.specs.declared.scope.ScopeContent.TheVariants as scp
-use Rattle.promise_grammar.specs.declared.member.MemberContent.{MemberContent}
 use Rattle.promise_grammar.specs.Word.{is_blank, is_word_byte}
 use Rattle.promise_grammar.specs.Kind.{kind_text, kind_named}
 use Rattle.promise_grammar.specs.Piece.{Piece, Word, Sign, begins_word, lengthened, joined, cut}
 use Rattle.promise_grammar.specs.Split.{first_split, closing_split, later_or}
 use Rattle.promise_grammar.specs.Count.{IsCount}
-use Rattle.promise_grammar.specs.Outcome.{Outcome, Found, Lost, Reader, and_then, pure, settled, word, is_over}
+use Rattle.promise_grammar.specs.Outcome.{Found, settled, word, is_over}
 use Rattle.promise_grammar.specs.Form.{scope_words, IsScope, member_words, IsMember}
 use Rattle.promise_grammar.specs.Reading.{scope, member, annotation, tail, whole, bare, closed_by, named_by, enclosing, opened_by, opened, Opened}
 use Rattle.promise_grammar.specs.Promise.{Holds}
@@ -97,6 +96,7 @@ closing_is_by b bs p None none later e = by (eqb b 41 && not (list_all is_blank 
     denied : (t : Bool) → not t ≡ true → t ≡ false
     denied true f = cc
     denied false f = refl
+
     by : (t : Bool) → (eqb b 41 && not (list_all is_blank bs)) ≡ t → cond t (Some ([], bs)) None ≡ Some p → (b ∷ bs ≡ p.0 ++ (41 ∷ p.1)) × (list_all is_blank p.1 ≡ false)
     by true both f =
         let each = both_true (eqb b 41) (not (list_all is_blank bs)) both in
@@ -182,18 +182,51 @@ named_or w j k o e = by (bytes_eq w (kind_text j)) refl e
 
 pub kind_named_found : (w : List ℕ) (k : PromiseKind) → kind_named w ≡ Some k → w ≡ kind_text k
 kind_named_found w k e =
-    elim (named_or w kind.Region k _ e) [ inl is ↦ is | inr r0 ↦
-    elim (named_or w kind.InRegion k _ r0) [ inl is ↦ is | inr r1 ↦
-    elim (named_or w kind.RegionLock k _ r1) [ inl is ↦ is | inr r2 ↦
-    elim (named_or w kind.RequiresLock k _ r2) [ inl is ↦ is | inr r3 ↦
-    elim (named_or w kind.Unique k _ r3) [ inl is ↦ is | inr r4 ↦
-    elim (named_or w kind.Borrowed k _ r4) [ inl is ↦ is | inr r5 ↦
-    elim (named_or w kind.RegionEffects k _ r5) [ inl is ↦ is | inr r6 ↦
-    elim (named_or w kind.Starts k _ r6) [ inl is ↦ is | inr r7 ↦
-    elim (named_or w kind.Promise k _ r7) [ inl is ↦ is | inr r8 ↦
-    elim (named_or w kind.Assume k _ r8) [ inl is ↦ is | inr r9 ↦
-    elim (named_or w kind.Vouch k _ r9) [ inl is ↦ is | inr r10 ↦
-    cc ] ] ] ] ] ] ] ] ] ] ]
+    elim (named_or w kind.Region k _ e) [
+      | inl is ↦ is
+      | inr r0 ↦
+          elim (named_or w kind.InRegion k _ r0) [
+            | inl is ↦ is
+            | inr r1 ↦
+                elim (named_or w kind.RegionLock k _ r1) [
+                  | inl is ↦ is
+                  | inr r2 ↦
+                      elim (named_or w kind.RequiresLock k _ r2) [
+                        | inl is ↦ is
+                        | inr r3 ↦
+                            elim (named_or w kind.Unique k _ r3) [
+                              | inl is ↦ is
+                              | inr r4 ↦
+                                  elim (named_or w kind.Borrowed k _ r4) [
+                                    | inl is ↦ is
+                                    | inr r5 ↦
+                                        elim (named_or w kind.RegionEffects k _ r5) [
+                                          | inl is ↦ is
+                                          | inr r6 ↦
+                                              elim (named_or w kind.Starts k _ r6) [
+                                                | inl is ↦ is
+                                                | inr r7 ↦
+                                                    elim (named_or w kind.Promise k _ r7) [
+                                                      | inl is ↦ is
+                                                      | inr r8 ↦
+                                                          elim (named_or w kind.Assume k _ r8) [
+                                                            | inl is ↦ is
+                                                            | inr r9 ↦
+                                                                elim (named_or w kind.Vouch k _ r9) [
+                                                                  | inl is ↦ is
+                                                                  | inr r10 ↦
+                                                                      cc
+                                                                ]
+                                                          ]
+                                                    ]
+                                              ]
+                                        ]
+                                  ]
+                            ]
+                      ]
+                ]
+          ]
+    ]
 
 pub kind_named_finds : (k : PromiseKind) → kind_named (kind_text k) ≡ Some k
 kind_named_finds kind.Region = refl
@@ -315,7 +348,7 @@ annotation_found ps k rest e =
     by w mid is None none f = cc
     by w mid is (Some j) some f =
         pure_is (λ (i : PromiseKind) (r : List Piece). ps ≡ Sign 64 ∷ Word (kind_text i) ∷ r) j k mid rest f
-          (is ∙ ap (λ (v : List ℕ). Sign 64 ∷ Word v ∷ mid) (kind_named_found w j some))
+        (is ∙ ap (λ (v : List ℕ). Sign 64 ∷ Word v ∷ mid) (kind_named_found w j some))
 
 annotation_finds : (k : PromiseKind) (rest : List Piece) → annotation (Sign 64 ∷ Word (kind_text k) ∷ rest) ≡ Found k rest
 unfolding annotation
@@ -357,7 +390,7 @@ named_found k content front rest y split None none e = cc
 named_found k content front rest y split (Some q) some e =
     let opens = first_split_is 40 front q some in
     closed_found k content q.0 q.1 rest y (split ∙ ap (λ (r : List ℕ). r ++ (41 ∷ rest)) opens ∙ append_assoc q.0 (40 ∷ q.1) (41 ∷ rest))
-      (whole annotation (cut q.0)) refl (whole (tail k) (cut rest)) refl e
+    (whole annotation (cut q.0)) refl (whole (tail k) (cut rest)) refl e
 
 pub opened_found : (k : PromiseKind) (content : List ℕ) (y : Opened) → opened k content ≡ Some y → OpensSo k content y
 unfolding opened enclosing

@@ -1,13 +1,13 @@
 -- Lists: a turn of their reader, and what it finds.
-use Rattle.std.proofs.Common.{◌≡◌, ◌⊎◌, inl, inr, ℕ, zero, suc, ◌+◌, ◌<◌, ◌≤◌, Bool, true, false, cond, List, [], ◌∷◌, ◌++◌, length, refl, sym, ap, ◌∙◌, subst, append_assoc, append-nil, arith, rules, length-append}
+use Rattle.std.proofs.Common.{◌≡◌, inl, inr, ℕ, zero, suc, ◌<◌, ◌≤◌, true, false, List, [], ◌∷◌, ◌++◌, length, refl, sym, ap, ◌∙◌, subst, append_assoc, append-nil, arith, length-append}
 use Rattle.std.specs.List.{AllByRecursion}
 use Rattle.promise_grammar.specs.declared.lock.LockItem.{LockItem}
 use Rattle.promise_grammar.specs.declared.lock.LockItem.TheVariants as lock
 use Rattle.promise_grammar.specs.declared.effects.EffectTarget.{EffectTarget}
 use Rattle.promise_grammar.specs.declared.effects.EffectTarget.TheVariants as effect
-use Rattle.promise_grammar.specs.Piece.{Piece, Word, Sign}
-use Rattle.promise_grammar.specs.Outcome.{Outcome, Found, Lost, Reader, and_then, pure, sees_sign, after, eaten, eat_sign}
-use Rattle.promise_grammar.specs.Form.{lock_item_words, IsLockItem, target_words, IsTarget, later_words, list_words, IsList}
+use Rattle.promise_grammar.specs.Piece.{Piece, Sign}
+use Rattle.promise_grammar.specs.Outcome.{Outcome, Found, Lost, Reader, pure, sees_sign, after, eaten}
+use Rattle.promise_grammar.specs.Form.{lock_item_words, target_words, later_words, list_words, IsList}
 use Rattle.promise_grammar.specs.Reading.{separated_from, separated, lock_item, target}
 use Rattle.promise_grammar.proofs.Steps.{then_found, pure_is, eaten_sign}
 use Rattle.promise_grammar.proofs.Sound.{Begins, Sound, lock_item_found, target_found}
@@ -103,11 +103,16 @@ separated_from_found {A} words Is item sound (suc n) found ps xs rest e =
     let is = sound ps x s.1 s.2 in
     let P : List A → List Piece → Type 0 = λ ys r. FoundList words Is found ps ys r in
     elim (eaten_sign 44 (separated_from item n (found ++ x ∷ [])) (pure (found ++ x ∷ [])) s.1 xs rest s.3) [
-      inl a ↦ (let t = separated_from_found words Is item sound n (found ++ x ∷ []) a.0 xs rest a.2 in
-        (x, t.0 ∷ t.1, t.2 ∙ append_assoc found (x ∷ []) (t.0 ∷ t.1),
-          is.0 ∙ ap (λ (r : List Piece). words x ++ r) (a.1 ∙ ap (λ (r : List Piece). Sign 44 ∷ r) t.3) ∙ sym (append_assoc (words x) (later_words words (t.0 ∷ t.1)) rest),
-          is.1, (t.4, t.5)))
-    | inr b ↦ pure_is P (found ++ x ∷ []) xs s.1 rest b.1 (x, [], refl, is.0 ∙ ap (λ (w : List Piece). w ++ s.1) (sym (append-nil (words x))), is.1, tt) ]
+      | inl a ↦ (let t = separated_from_found words Is item sound n (found ++ x ∷ []) a.0 xs rest a.2 in (
+        x,
+        t.0 ∷ t.1,
+        t.2 ∙ append_assoc found (x ∷ []) (t.0 ∷ t.1),
+        is.0 ∙ ap (λ (r : List Piece). words x ++ r) (a.1 ∙ ap (λ (r : List Piece). Sign 44 ∷ r) t.3) ∙ sym (append_assoc (words x) (later_words words (t.0 ∷ t.1)) rest),
+        is.1,
+        (t.4, t.5),
+      ))
+      | inr b ↦ pure_is P (found ++ x ∷ []) xs s.1 rest b.1 (x, [], refl, is.0 ∙ ap (λ (w : List Piece). w ++ s.1) (sym (append-nil (words x))), is.1, tt)
+    ]
 
 pub separated_found : {A : Type 0} (words : A → List Piece) (Is : A → Type 0) (item : Reader A) → Sound words Is item → Sound (list_words words) (IsList Is) (separated item)
 unfolding separated

@@ -1,5 +1,5 @@
 -- Members and counts: what their readers find is spelled so, and what is spelled is found.
-use Rattle.std.proofs.Common.{◌≡◌, ◌⊎◌, inl, inr, ℕ, zero, suc, ◌+◌, ◌-◌, ◌*◌, ◌<◌, ◌≤◌, Bool, true, false, cond, ◌&&◌, eqb, ltb, List, [], ◌∷◌, ◌++◌, length, get_or, Option, Some, None, codes, refl, sym, ap, ◌∙◌, subst, append_assoc, append-nil, arith, rules}
+use Rattle.std.proofs.Common.{◌≡◌, ℕ, ◌+◌, ◌-◌, ◌*◌, ◌<◌, ◌≤◌, Bool, true, false, cond, ◌&&◌, eqb, ltb, List, [], ◌∷◌, ◌++◌, Option, Some, None, codes, refl, ap, ◌∙◌, arith}
 use Rattle.std.specs.Char.{is_ascii_digit}
 use Rattle.std.specs.List.{list_all}
 use Rattle.std.specs.Str.{bytes_eq}
@@ -9,8 +9,8 @@ use Rattle.promise_grammar.specs.declared.member.MemberContent.{MemberContent}
 use Rattle.promise_grammar.specs.Word.{is_name, is_reserved}
 use Rattle.promise_grammar.specs.Piece.{Piece, Word, Sign}
 use Rattle.promise_grammar.specs.Count.{value_from, IsCount, count_from, count_of}
-use Rattle.promise_grammar.specs.Outcome.{Outcome, Found, Lost, Reader, and_then, pure, lost, settled, word, name}
-use Rattle.promise_grammar.specs.Form.{IsName, member_name_word, IsMemberName, member_words, IsMember}
+use Rattle.promise_grammar.specs.Outcome.{Found, Lost, Reader, settled, word, name}
+use Rattle.promise_grammar.specs.Form.{member_name_word, IsMemberName, member_words, IsMember}
 use Rattle.promise_grammar.specs.Reading.{member_name, member_count, member}
 use Rattle.promise_grammar.proofs.Steps.{then_found, pure_is, bytes_same, expected_word, expected_sign, name_found, name_finds, name_apart}
 use Rattle.promise_grammar.proofs.ScopeLaws.{word_found, both_true}
@@ -137,10 +137,12 @@ member_found ps m rest e =
     let within = expected_word (codes "in") _ c.1 m rest c.3 in
     let k = then_found (name within.0) _ m rest within.2 in
     let is_k = name_found within.0 k.0 k.1 k.2 in
-    pure_is (λ (x : MemberContent) (r : List Piece). SpellsMember ps x r) (record { name = n.0; count = c.0; class = k.0 }) m k.1 rest k.3
-      (is_c.0, is_c.2,
-        is_n.0 ∙ ap (λ (r : List Piece). Word (member_name_word n.0) ∷ r) (slash.1 ∙ ap (λ (r : List Piece). Sign 47 ∷ r) (is_c.1 ∙ ap (λ (r : List Piece). Word is_c.0 ∷ r) (within.1 ∙ ap (λ (r : List Piece). Word (codes "in") ∷ r) is_k.0))),
-        record { name = is_n.1; class = is_k.1 })
+    pure_is (λ (x : MemberContent) (r : List Piece). SpellsMember ps x r) (record { name = n.0; count = c.0; class = k.0 }) m k.1 rest k.3 (
+      is_c.0,
+      is_c.2,
+      is_n.0 ∙ ap (λ (r : List Piece). Word (member_name_word n.0) ∷ r) (slash.1 ∙ ap (λ (r : List Piece). Sign 47 ∷ r) (is_c.1 ∙ ap (λ (r : List Piece). Word is_c.0 ∷ r) (within.1 ∙ ap (λ (r : List Piece). Word (codes "in") ∷ r) is_k.0))),
+      record { name = is_n.1; class = is_k.1 },
+    )
 
 member_name_finds : (m : MemberName) (ps : List Piece) → IsMemberName m → member_name (Word (member_name_word m) ∷ ps) ≡ Found m ps
 unfolding member_name
@@ -154,5 +156,8 @@ member_count_finds digits n ps is = rw (count_finds digits n is) refl
 pub member_finds : (m : MemberContent) (digits : List ℕ) → IsMember m → IsCount digits m.count → member (member_words m digits) ≡ Found m []
 unfolding member
 member_finds m digits is counts =
-    rw (member_name_finds m.name (Sign 47 ∷ Word digits ∷ Word (codes "in") ∷ Word m.class ∷ []) is.name,
-      member_count_finds digits m.count (Word (codes "in") ∷ Word m.class ∷ []) counts, name_finds m.class [] is.class) refl
+    rw (
+      member_name_finds m.name (Sign 47 ∷ Word digits ∷ Word (codes "in") ∷ Word m.class ∷ []) is.name,
+      member_count_finds digits m.count (Word (codes "in") ∷ Word m.class ∷ []) counts,
+      name_finds m.class [] is.class,
+    ) refl

@@ -1,18 +1,18 @@
 -- Layers round trees: what a content spells with its outermost layer and without it, and that it spells one tree.
-use Rattle.std.proofs.Common.{◌≡◌, ℕ, zero, suc, Bool, true, false, List, [], ◌∷◌, ◌++◌, length, Option, Some, None, codes, refl, sym, ap, ◌∙◌, subst}
+use Rattle.std.proofs.Common.{◌≡◌, ℕ, zero, suc, true, false, List, [], ◌∷◌, ◌++◌, Some, None, codes, refl, sym, ap, ◌∙◌, subst}
 use Rattle.promise_grammar.specs.declared.kind.PromiseKind.{PromiseKind}
 use Rattle.promise_grammar.specs.declared.kind.PromiseKind.TheVariants as kind
 use Rattle.promise_grammar.specs.declared.layer.Layer.{Layer}
 use Rattle.promise_grammar.specs.declared.layer.Layer.TheVariants as lay
 use Rattle.promise_grammar.specs.declared.tree.PromiseTree.{PromiseTree}
 use Rattle.promise_grammar.specs.declared.tree.PromiseTree.TheVariants as tree
-use Rattle.promise_grammar.specs.Piece.{Piece, Word, Sign}
+use Rattle.promise_grammar.specs.Piece.{Piece, Word}
 use Rattle.promise_grammar.specs.Form.{scope_words, member_words}
-use Rattle.promise_grammar.specs.Reading.{opened, words_tree}
-use Rattle.promise_grammar.specs.Promise.{Plain, Holds, Scoped, Assumed, Nested, ReadsPromise}
+use Rattle.promise_grammar.specs.Reading.{opened}
+use Rattle.promise_grammar.specs.Promise.{Plain, Holds, Nested, ReadsPromise}
 use Rattle.promise_grammar.specs.Peeling.{nests, around, wrapped, Peeled, SpellsNone}
 use Rattle.promise_grammar.proofs.PlainLaws.{plain_finds}
-use Rattle.promise_grammar.proofs.LayerLaws.{Opens, TailWords, opened_found, opened_finds}
+use Rattle.promise_grammar.proofs.LayerLaws.{Opens, opened_found, opened_finds}
 
 -- ---- one layer
 
@@ -95,11 +95,11 @@ one_more_off k0 content0 ls more k content l i text peeled nest found last =
     let opens = opened_found k content (l, i, text) found in
     record {
       inward = λ t r. (let p = peeled.inward t r in
-        let q = one_layer k content l i text p.0 nest found p.1 in
-        (q.0, q.1, p.2 ∙ ap (wrapped ls) q.2 ∙ sym (wrapped-push ls l q.0) ∙ ap (λ (xs : List Layer). wrapped xs q.0) (sym last)));
+          let q = one_layer k content l i text p.0 nest found p.1 in
+          (q.0, q.1, p.2 ∙ ap (wrapped ls) q.2 ∙ sym (wrapped-push ls l q.0) ∙ ap (λ (xs : List Layer). wrapped xs q.0) (sym last)));
       outward = λ t r. (let spelled = peeled.outward (around l t) (layered_spells k content l i text t nest opens r) in
-        let same : wrapped ls (around l t) ≡ wrapped more t = sym (wrapped-push ls l t) ∙ ap (λ (xs : List Layer). wrapped xs t) (sym last) in
-        subst (λ (u : PromiseTree). ReadsPromise k0 content0 u) same spelled)
+          let same : wrapped ls (around l t) ≡ wrapped more t = sym (wrapped-push ls l t) ∙ ap (λ (xs : List Layer). wrapped xs t) (sym last) in
+          subst (λ (u : PromiseTree). ReadsPromise k0 content0 u) same spelled);
     }
 
 pub no_layer : (k0 : PromiseKind) (content0 : List ℕ) (ls : List Layer) (k : PromiseKind) (content : List ℕ) → Peeled k0 content0 ls k content → nests k ≡ true → opened k content ≡ None → SpellsNone k0 content0

@@ -1,13 +1,12 @@
 -- Contents that hold no other promise: what is found is spelled, and what is spelled is found.
-use Rattle.std.proofs.Common.{◌≡◌, ◌⊎◌, inl, inr, ℕ, Bool, true, false, cond, List, [], ◌∷◌, ◌++◌, Option, Some, None, Result, Ok, Err, codes, refl, sym, ap, ◌∙◌, subst, append-nil}
+use Rattle.std.proofs.Common.{◌≡◌, ℕ, List, [], ◌∷◌, Some, None, Result, Ok, Err, codes, refl, sym, ap, ◌∙◌, append-nil}
 use Rattle.promise_grammar.specs.declared.error.PromiseError.{PromiseError}
-use Rattle.promise_grammar.specs.declared.error.PromiseError.TheVariants as error
 use Rattle.promise_grammar.specs.declared.kind.PromiseKind.{PromiseKind}
 use Rattle.promise_grammar.specs.declared.kind.PromiseKind.TheVariants as kind
 use Rattle.promise_grammar.specs.declared.tree.PromiseTree.{PromiseTree}
 use Rattle.promise_grammar.specs.declared.tree.PromiseTree.TheVariants as tree
-use Rattle.promise_grammar.specs.Piece.{Piece, Word, Sign, cut}
-use Rattle.promise_grammar.specs.Outcome.{Outcome, Found, Lost, Reader, and_then, pure, is_over, name, Answers}
+use Rattle.promise_grammar.specs.Piece.{Piece, Word, cut}
+use Rattle.promise_grammar.specs.Outcome.{Outcome, Found, Lost, Reader, and_then, pure, name, Answers}
 use Rattle.promise_grammar.specs.Form.{region_words, region_lock_words, list_words, lock_item_words, unique_words, borrowed_words, effects_words}
 use Rattle.promise_grammar.specs.Reading.{if_over, whole, tree_of, words_tree, region, region_lock, separated, lock_item, unique, borrowed, effects}
 use Rattle.promise_grammar.specs.Promise.{Plain}

@@ -1,5 +1,5 @@
 -- Scopes: what their reader finds is spelled so, and what is spelled is found.
-use Rattle.std.proofs.Common.{◌≡◌, ◌⊎◌, inl, inr, ℕ, zero, suc, ◌+◌, ◌<◌, ◌≤◌, Bool, true, false, not, cond, ◌&&◌, eqb, List, [], ◌∷◌, ◌++◌, length, take, drop, Option, Some, None, codes, refl, sym, ap, ◌∙◌, subst, append_assoc, append-nil, arith, rules}
+use Rattle.std.proofs.Common.{◌≡◌, inl, inr, ℕ, zero, suc, ◌≤◌, Bool, true, false, not, cond, ◌&&◌, eqb, List, [], ◌∷◌, ◌++◌, length, take, drop, Option, Some, None, codes, refl, sym, ap, ◌∙◌, subst, arith}
 use Rattle.std.specs.List.{list_all}
 use Rattle.std.specs.Str.{bytes_eq}
 use Rattle.std.proofs.Math.Seq.{drop-append_seam, take-append_seam}
@@ -11,9 +11,9 @@ use Rattle.promise_grammar.specs.declared.scope.ScopeContent.TheVariants as scp
 use Rattle.promise_grammar.specs.Word.{is_name, is_name_byte, is_reserved, begins_name}
 use Rattle.promise_grammar.specs.Piece.{Piece, Word, Sign}
 use Rattle.promise_grammar.specs.Split.{first_split, longer_front}
-use Rattle.promise_grammar.specs.Outcome.{Outcome, Found, Lost, Reader, and_then, pure, settled, word, sees_word, sees_sign, after, eaten}
+use Rattle.promise_grammar.specs.Outcome.{Found, Reader, and_then, settled, word}
 use Rattle.promise_grammar.specs.Form.{IsName, pattern_word, IsPattern, scope_words, IsScope}
-use Rattle.promise_grammar.specs.Reading.{is_nil, exact_pattern, starred_pattern, by_star, pattern, constructors, members, opened_members, scope}
+use Rattle.promise_grammar.specs.Reading.{is_nil, exact_pattern, starred_pattern, by_star, pattern, constructors, members, scope}
 use Rattle.promise_grammar.proofs.Steps.{then_found, pure_is, bytes_same, eaten_word, eaten_sign, expected_word, expected_sign, name_apart}
 use Rattle.promise_grammar.proofs.Sound.{Begins, Sound}
 
@@ -45,6 +45,7 @@ first_split_here s (b ∷ front) rest none = by (eqb b s) (first_split_here s fr
     later : (o : Option (List ℕ × List ℕ)) → longer_front b o ≡ None → o ≡ None
     later None e = refl
     later (Some q) e = cc
+
     by : (t : Bool) → (first_split s front ≡ None → first_split s (front ++ (s ∷ rest)) ≡ Some (front, rest)) → eqb b s ≡ t → cond t (Some ([], front)) (longer_front b (first_split s front)) ≡ None
         → cond t (Some ([], front ++ (s ∷ rest))) (longer_front b (first_split s (front ++ (s ∷ rest)))) ≡ Some (b ∷ front, rest)
     by true again same e = cc
@@ -100,6 +101,7 @@ starred_found before rest p e = by (is_nil before && is_nil rest) refl e
         let spelled : before ++ (42 ∷ rest) ≡ take (length before) (before ++ rest) ++ (42 ∷ drop (length before) (before ++ rest)) = rw (take-append_seam before rest, drop-append_seam before rest) refl in
         subst (λ (q : NamePattern). Spelled (before ++ (42 ∷ rest)) q) same (spelled, (is, within))
     named false is f = cc
+
     by : (t : Bool) → (is_nil before && is_nil rest) ≡ t
         → cond t (Some pat.Any) (cond (is_name (before ++ rest)) (Some (pat.Starred (before ++ rest) (length before))) None) ≡ Some p → Spelled (before ++ (42 ∷ rest)) p
     by true nil f =
@@ -151,21 +153,23 @@ constructors_found ps s rest e =
     let b = expected_word (codes "**") _ a.0 s rest a.2 in
     let c = expected_sign 41 _ b.0 s rest b.2 in
     pure_is (λ (t : ScopeContent) (r : List Piece). Begins scope_words IsScope (Word (codes "new") ∷ ps) t r) scp.Constructors s c.0 rest c.2
-      (ap (λ (r : List Piece). Word (codes "new") ∷ r) (a.1 ∙ ap (λ (r : List Piece). Sign 40 ∷ r) (b.1 ∙ ap (λ (r : List Piece). Word (codes "**") ∷ r) c.1)), tt)
+    (ap (λ (r : List Piece). Word (codes "new") ∷ r) (a.1 ∙ ap (λ (r : List Piece). Sign 40 ∷ r) (b.1 ∙ ap (λ (r : List Piece). Word (codes "**") ∷ r) c.1)), tt)
 
 members_found : (p : NamePattern) → IsPattern p → (ps : List Piece) (s : ScopeContent) (rest : List Piece) → members p ps ≡ Found s rest → Begins scope_words IsScope (Word (pattern_word p) ∷ ps) s rest
 unfolding members
 members_found p is ps s rest e =
     let P : ScopeContent → List Piece → Type 0 = λ t r. Begins scope_words IsScope (Word (pattern_word p) ∷ ps) t r in
     elim (eaten_sign 40 _ _ ps s rest e) [
-      inl a ↦ elim (eaten_word (codes "**") _ _ a.0 s rest a.2) [
-        inl b ↦ (let c = expected_sign 41 _ b.0 s rest b.2 in
-          pure_is P (scp.Methods p) s c.0 rest c.2
+      | inl a ↦ elim (eaten_word (codes "**") _ _ a.0 s rest a.2) [
+        | inl b ↦ (let c = expected_sign 41 _ b.0 s rest b.2 in
+            pure_is P (scp.Methods p) s c.0 rest c.2
             (ap (λ (r : List Piece). Word (pattern_word p) ∷ r) (a.1 ∙ ap (λ (r : List Piece). Sign 40 ∷ r) (b.1 ∙ ap (λ (r : List Piece). Word (codes "**") ∷ r) c.1)), is))
-      | inr b ↦ (let c = expected_sign 41 _ a.0 s rest b.1 in
-          pure_is P (scp.PlainMethods p) s c.0 rest c.2
-            (ap (λ (r : List Piece). Word (pattern_word p) ∷ r) (a.1 ∙ ap (λ (r : List Piece). Sign 40 ∷ r) c.1), is)) ]
-    | inr b ↦ pure_is P (scp.Fields p) s ps rest b.1 (refl, is) ]
+        | inr b ↦ (let c = expected_sign 41 _ a.0 s rest b.1 in
+            pure_is P (scp.PlainMethods p) s c.0 rest c.2
+            (ap (λ (r : List Piece). Word (pattern_word p) ∷ r) (a.1 ∙ ap (λ (r : List Piece). Sign 40 ∷ r) c.1), is))
+      ]
+      | inr b ↦ pure_is P (scp.Fields p) s ps rest b.1 (refl, is)
+    ]
 
 settled_found : (w : List ℕ) (ps : List Piece) (s : ScopeContent) (rest : List Piece) (o : Option NamePattern) → pattern w ≡ o → and_then (settled o ps) members ≡ Found s rest
     → Begins scope_words IsScope (Word w ∷ ps) s rest

@@ -1,10 +1,10 @@
 -- Splits of a content: as the code finds them, and where they are.
-use Rattle.std.proofs.Common.{◌≡◌, ◌⊎◌, inl, inr, ℕ, zero, suc, ◌+◌, ◌-◌, ◌<◌, ◌≤◌, Bool, true, false, not, cond, eqb, ◌&&◌, List, [], ◌∷◌, ◌++◌, length, take, drop, get_or, Option, Some, None, refl, sym, ap, ◌∙◌, subst, arith, rules}
+use Rattle.std.proofs.Common.{◌≡◌, ℕ, suc, ◌+◌, ◌-◌, ◌<◌, ◌≤◌, Bool, true, false, not, cond, eqb, List, [], ◌∷◌, ◌++◌, length, take, drop, get_or, Some, None, refl, sym, ap, ◌∙◌, arith}
 use Rattle.std.specs.List.{position_or_len, list_all}
 use Rattle.std.proofs.Math.Seq.{drop-cons}
 use Rattle.std.proofs.lemmas.List.{take-append-drop}
 use Rattle.promise_grammar.specs.Word.{is_blank}
-use Rattle.promise_grammar.specs.Split.{first_split, longer_front, closing_split, later_or}
+use Rattle.promise_grammar.specs.Split.{first_split, longer_front, closing_split}
 use Rattle.promise_grammar.proofs.Cutting.{rest_whole}
 
 -- ---- the first such byte

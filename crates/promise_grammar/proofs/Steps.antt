@@ -1,11 +1,10 @@
 -- The steps of readers: what a step that found something found, and what a step finds.
-use Rattle.std.proofs.Common.{◌≡◌, ◌⊎◌, inl, inr, ℕ, ◌+◌, ◌<◌, ◌≤◌, Bool, true, false, cond, List, [], ◌∷◌, ◌++◌, length, refl, sym, ap, ◌∙◌, subst, arith, rules, ◌&&◌, not, eqb}
+use Rattle.std.proofs.Common.{◌≡◌, ◌⊎◌, inl, inr, ℕ, Bool, true, false, cond, List, [], ◌∷◌, refl, ap, subst, arith, eqb}
 use Rattle.std.specs.Str.{bytes_eq}
-use Rattle.std.proofs.lemmas.Bool.{false≢true}
 use Rattle.std.proofs.lemmas.Slice.Eq.{bytes_eq-Decides}
 use Rattle.promise_grammar.specs.Word.{is_name, is_reserved}
 use Rattle.promise_grammar.specs.Piece.{Piece, Word, Sign}
-use Rattle.promise_grammar.specs.Outcome.{Outcome, Found, Lost, Reader, and_then, sees_word, sees_sign, after, eaten, is_over, word, name, eat_word, eat_sign, expect_word, expect_sign, expect_end}
+use Rattle.promise_grammar.specs.Outcome.{Outcome, Found, Lost, Reader, and_then, sees_word, sees_sign, after, eaten, name, expect_word, expect_sign}
 use Rattle.promise_grammar.specs.Form.{IsName}
 
 -- ---- what was found

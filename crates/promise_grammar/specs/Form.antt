@@ -1,5 +1,5 @@
 -- The forms of contents: which parts are lawful, and the pieces that spell them.
-use Rattle.std.specs.Prelude.{◌≡◌, ◌≢◌, ℕ, ◌<◌, ◌≤◌, Bool, true, false, List, [], ◌∷◌, ◌++◌, length, take, drop, Option, Some, None, IfSome, codes}
+use Rattle.std.specs.Prelude.{◌≡◌, ℕ, ◌<◌, ◌≤◌, Bool, true, false, List, [], ◌∷◌, ◌++◌, length, take, drop, Option, Some, None, IfSome, codes}
 use Rattle.std.specs.List.{AllByRecursion}
 use Rattle.promise_grammar.specs.declared.region.RegionContent.{RegionContent}
 use Rattle.promise_grammar.specs.declared.region.Visibility.{Visibility}

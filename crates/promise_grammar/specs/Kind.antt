@@ -29,7 +29,7 @@ kind_text k = name_text (name_of k)
 
 abbrev pub kind_named : List ℕ → Option PromiseKind
 kind_named w =
-    if bytes_eq w (kind_text kind.Region) then Some kind.Region else ( if bytes_eq w (kind_text kind.InRegion) then Some kind.InRegion else ( if bytes_eq w (kind_text kind.RegionLock) then Some kind.RegionLock else (
-    if bytes_eq w (kind_text kind.RequiresLock) then Some kind.RequiresLock else ( if bytes_eq w (kind_text kind.Unique) then Some kind.Unique else ( if bytes_eq w (kind_text kind.Borrowed) then Some kind.Borrowed else (
-    if bytes_eq w (kind_text kind.RegionEffects) then Some kind.RegionEffects else ( if bytes_eq w (kind_text kind.Starts) then Some kind.Starts else ( if bytes_eq w (kind_text kind.Promise) then Some kind.Promise else (
-    if bytes_eq w (kind_text kind.Assume) then Some kind.Assume else ( if bytes_eq w (kind_text kind.Vouch) then Some kind.Vouch else (None)))))))))))
+    if bytes_eq w (kind_text kind.Region) then Some kind.Region else (if bytes_eq w (kind_text kind.InRegion) then Some kind.InRegion else (if bytes_eq w (kind_text kind.RegionLock) then Some kind.RegionLock else (
+    if bytes_eq w (kind_text kind.RequiresLock) then Some kind.RequiresLock else (if bytes_eq w (kind_text kind.Unique) then Some kind.Unique else (if bytes_eq w (kind_text kind.Borrowed) then Some kind.Borrowed else (
+    if bytes_eq w (kind_text kind.RegionEffects) then Some kind.RegionEffects else (if bytes_eq w (kind_text kind.Starts) then Some kind.Starts else (if bytes_eq w (kind_text kind.Promise) then Some kind.Promise else (
+    if bytes_eq w (kind_text kind.Assume) then Some kind.Assume else (if bytes_eq w (kind_text kind.Vouch) then Some kind.Vouch else (None)))))))))))

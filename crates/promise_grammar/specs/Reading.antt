@@ -1,5 +1,5 @@
 -- Readers of the forms, piece by piece from the front. What they read is stated apart, in Form.
-use Rattle.std.specs.Prelude.{ℕ, zero, suc, Bool, true, false, if◌then◌else◌, not, ◌&&◌, List, [], ◌∷◌, ◌++◌, length, Option, Some, None, codes}
+use Rattle.std.specs.Prelude.{ℕ, zero, suc, Bool, true, false, if◌then◌else◌, ◌&&◌, List, [], ◌∷◌, ◌++◌, length, Option, Some, None, codes}
 use Rattle.std.specs.Str.{bytes_eq}
 use Rattle.promise_grammar.specs.declared.region.RegionContent.{RegionContent}
 use Rattle.promise_grammar.specs.declared.region.Visibility.{Visibility}
@@ -34,7 +34,7 @@ use Rattle.promise_grammar.specs.Word.{is_name}
 use Rattle.promise_grammar.specs.Split.{first_split, closing_split}
 use Rattle.promise_grammar.specs.Count.{count_of}
 use Rattle.promise_grammar.specs.Piece.{Piece, cut}
-use Rattle.promise_grammar.specs.Outcome.{Outcome, Found, Lost, Reader, is_over, and_then, ◌>>=◌, ◌>>◌, ◌<$>◌, pure, lost, settled, word, name, eat_word, eat_sign, expect_word, expect_sign, expect_end}
+use Rattle.promise_grammar.specs.Outcome.{Outcome, Found, Lost, Reader, is_over, ◌>>=◌, ◌>>◌, ◌<$>◌, pure, lost, settled, word, name, eat_word, eat_sign, expect_word, expect_sign}
 
 -- ---- lists
 

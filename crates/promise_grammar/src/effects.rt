@@ -76,10 +76,7 @@ fn target(alloc: Global, pieces: &mut Pieces<'_>) -> Result<EffectTarget, Promis
     named_target(alloc, first, pieces)
 }
 
-fn targets(
-    alloc: Global,
-    pieces: &mut Pieces<'_>,
-) -> Result<Items<EffectTarget>, PromiseError>
+fn targets(alloc: Global, pieces: &mut Pieces<'_>) -> Result<Items<EffectTarget>, PromiseError>
     ensures { Reads (read.separated read.target pieces.old) result pieces.new }
 {
     let mut found = Items::new(alloc);
@@ -93,10 +90,7 @@ fn targets(
 
 /// Reads what may follow the list of what is read.
 #[tactic(auto, unfolding(crate::specs::Reading::more_writes))]
-fn more_writes(
-    alloc: Global,
-    pieces: &mut Pieces<'_>,
-) -> Result<Items<EffectTarget>, PromiseError>
+fn more_writes(alloc: Global, pieces: &mut Pieces<'_>) -> Result<Items<EffectTarget>, PromiseError>
     ensures { Reads (read.more_writes pieces.old) result pieces.new }
 {
     if pieces.eat_sign(b';') {

@@ -33,11 +33,7 @@ fn annotation(pieces: &mut Pieces<'_>) -> Result<PromiseKind, PromiseError>
 
 /// Reads `for` and what the promise is for.
 #[tactic(auto, unfolding(crate::specs::Reading::tail))]
-fn tail(
-    alloc: Global,
-    kind: PromiseKind,
-    pieces: &mut Pieces<'_>,
-) -> Result<Layer, PromiseError>
+fn tail(alloc: Global, kind: PromiseKind, pieces: &mut Pieces<'_>) -> Result<Layer, PromiseError>
     ensures { Reads (read.tail kind pieces.old) result pieces.new }
 {
     match kind {

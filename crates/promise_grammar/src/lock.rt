@@ -96,10 +96,7 @@ fn lock_item(alloc: Global, pieces: &mut Pieces<'_>) -> Result<LockItem, Promise
 }
 
 /// Reads a list of locks, of one at least.
-pub fn lock_items(
-    alloc: Global,
-    pieces: &mut Pieces<'_>,
-) -> Result<Items<LockItem>, PromiseError>
+pub fn lock_items(alloc: Global, pieces: &mut Pieces<'_>) -> Result<Items<LockItem>, PromiseError>
     ensures { Reads (read.separated read.lock_item pieces.old) result pieces.new }
 {
     let mut found = Items::new(alloc);

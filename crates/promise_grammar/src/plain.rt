@@ -48,11 +48,7 @@ fn tree_of(
 
 /// The tree that the whole content spells in words.
 #[tactic(auto, unfolding(crate::specs::Reading::words_tree))]
-fn words_tree(
-    alloc: Global,
-    kind: PromiseKind,
-    content: &[u8],
-) -> Result<PromiseTree, PromiseError>
+fn words_tree(alloc: Global, kind: PromiseKind, content: &[u8]) -> Result<PromiseTree, PromiseError>
     ensures { Answers (read.words_tree kind content.now) result }
 {
     let mut pieces = Pieces::new(content);

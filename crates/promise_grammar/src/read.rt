@@ -92,5 +92,4 @@ pub fn read_promise(
 pub fn one_tree()
     ensures { (kind : PromiseKind) (content : List ℕ) (a b : PromiseTree) →
         ReadsPromise kind content a → ReadsPromise kind content b → a ≡ b }
-{
-}
+{}

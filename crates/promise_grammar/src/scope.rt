@@ -40,11 +40,7 @@ fn exact_pattern(alloc: Global, word: &[u8]) -> Result<NamePattern, PromiseError
 
 /// The pattern whose star stands between these two parts.
 #[tactic(auto, unfolding(crate::specs::Reading::starred_pattern))]
-fn starred_pattern(
-    alloc: Global,
-    before: &[u8],
-    after: &[u8],
-) -> Result<NamePattern, PromiseError>
+fn starred_pattern(alloc: Global, before: &[u8], after: &[u8]) -> Result<NamePattern, PromiseError>
     ensures { Answers (read.starred_pattern before.now after.now) result }
 {
     if before.is_empty() && after.is_empty() {

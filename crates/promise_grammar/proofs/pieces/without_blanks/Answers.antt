@@ -1,4 +1,3 @@
-use Rattle.std.proofs.Common.{rules}
 use Rattle.promise_grammar.proofs.Cutting.{cut-past_blanks, begins_blank-past_blanks, rest_whole}
 use Rattle.promise_grammar.proofs.pieces.without_blanks.Goals as goal
 

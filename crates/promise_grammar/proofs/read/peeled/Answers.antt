@@ -9,7 +9,7 @@ inwards-smaller c = opened_shorter c.inwards.kind c.inwards.content.now (c.in-Ok
 pub inwards-preserved : goal.inwards-preserved
 inwards-preserved c =
     one_more_off c.args.kind c.args.content.now c.inwards.layers c.push.new.self c.inwards.kind c.inwards.content.now c.in-Ok.layer c.in-Ok.inner c.in-Ok.text.now
-      c.inwards.invariant (sym c.inwards-test.ensures) c.in-Ok.ensures c.in_ok-push-in-Ok.ensures.ok
+    c.inwards.invariant (sym c.inwards-test.ensures) c.in-Ok.ensures c.in_ok-push-in-Ok.ensures.ok
 
 pub returns-in-Err : goal.returns-in-Err
 returns-in-Err c =

@@ -11,4 +11,4 @@ returns-in_err-core c =
 pub returns : goal.returns
 returns c =
     answered c.args.kind c.args.content.now c.peeled.new.layers c.in_ok-kind.kind c.in_ok-kind.content.now c.in_ok-core.core c.in_ok-wrapped.field-0
-      c.in_ok-kind.ensures.1 c.in_ok-core.ensures.0 c.in_ok-wrapped.ensures
+    c.in_ok-kind.ensures.1 c.in_ok-core.ensures.0 c.in_ok-wrapped.ensures
