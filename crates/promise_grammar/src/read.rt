@@ -1,7 +1,6 @@
-ghost use Rattle.std.specs.Prelude.{◌≡◌, [], IfOk};
+ghost use Rattle.std.specs.Prelude.{◌≡◌, ℕ, List, [], IfOk};
 ghost use Rattle.promise_grammar.specs.declared.tree.PromiseTree.{PromiseTree};
 ghost use Rattle.promise_grammar.specs.declared.kind.PromiseKind.{PromiseKind};
-ghost use Rattle.std.specs.Prelude.{ℕ, List};
 ghost use Rattle.promise_grammar.specs.Promise.{ReadsPromise, IsAnswer};
 ghost use Rattle.promise_grammar.specs.Peeling as spec;
 ghost use Rattle.promise_grammar.specs.Peeling.{Peels};
