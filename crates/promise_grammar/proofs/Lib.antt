@@ -1,0 +1,12 @@
+pub mod Again
+pub mod Cutting
+pub mod EffectLaws
+pub mod LayerLaws
+pub mod Lists
+pub mod MemberLaws
+pub mod PeelLaws
+pub mod PlainLaws
+pub mod ScopeLaws
+pub mod Sound
+pub mod Splitting
+pub mod Steps

@@ -1,0 +1,12 @@
+use Rattle.std.proofs.Common.{◌≡◌, length, map}
+use Rattle.std.specs.List.{list_any}
+use Rattle.std.specs.Str.{bytes_eq}
+use Rattle.promise_grammar.proofs.word.is_among.Given as goal
+
+abbrev pub invariant-loop-table : goal.invariant-loop-table
+invariant-loop-table l =
+    list_any (λ known. bytes_eq known l.word) (map (λ known. known.now) l.table)
+    ≡ list_any (λ known. bytes_eq known l.word) (map (λ known. known.now) l.initial.table)
+
+abbrev pub decreases-loop-table : goal.decreases-loop-table
+decreases-loop-table l = length l.table

@@ -1,0 +1,11 @@
+pub mod Count
+pub mod Cursor
+pub mod Form
+pub mod Kind
+pub mod Outcome
+pub mod Peeling
+pub mod Piece
+pub mod Promise
+pub mod Reading
+pub mod Split
+pub mod Word
