@@ -71,3 +71,13 @@ pub more_law : (bytes rest more : List ℕ) (files : List Entry) → Stops bytes
 more_law bytes rest more files stop some is =
     let e : rest ≡ end_line = after_stop bytes rest files stop is in
     let found : stripped end_line rest ≡ Some [] = ap (stripped end_line) (e ∙ sym (append-nil end_line)) ∙ stripped_again end_line [] in cc
+
+ends_here : (more : List Entry) → end_line ≡ entries_bytes more ++ end_line → more ≡ []
+ends_here [] e = refl
+ends_here (f ∷ more) e = cc
+
+-- bytes are the bundle of one list of files at most
+pub one_list : (bytes : List ℕ) (first second : List Entry) → IsBundle first bytes → IsBundle second bytes → first ≡ second
+one_list bytes first second one two =
+    let c = continues first second end_line one.good.each two.good.each (sym one.whole ∙ two.whole) in
+    sym (c.files ∙ ap (λ l. first ++ l) (ends_here c.more c.left) ∙ append-nil first)

@@ -1,0 +1,5 @@
+pub mod Inputs
+pub mod Outputs
+pub mod Ascii
+pub mod OneWord
+pub mod Files
