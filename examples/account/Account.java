@@ -1,0 +1,5 @@
+@RegionLock("L is this protects Instance")
+class Account {
+  int n;
+  synchronized void deposit() { n += 1; }
+}
