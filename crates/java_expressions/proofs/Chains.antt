@@ -85,7 +85,9 @@ module _ (room : ℕ) (inner : ℕ → Parser Tall) (known : Reading-sound room 
       let found = primary-complete room inner known complete m p f ts rest fits is s free in
       record {
         reaches = record { height = found.finds.height; low = found.finds.low; left = suc (length rest); enough = omega arith; is = rw (found.finds.is) refl };
-        kind = found.kind; next = found.next; leading = found.leading
+        kind = found.kind;
+        next = found.next;
+        leading = found.leading;
       }
 
   post-reaches : (m : ℕ) (f : Expr-F Expr) (ts rest : List Token) → m ≤ room → Layered m (Spells m) 8 f ts rest → sees k.LParen rest ≡ false
@@ -104,10 +106,15 @@ module _ (room : ℕ) (inner : ℕ → Parser Tall) (known : Reading-sound room 
       let (j, enough, same) = turn_once (sees k.Dot) (selection inner room) b.left x (tall (tree.Select x.expr w) (x.height + 1)) mid rest b.enough (sees-kind k.Dot k.Dot mid (next-sign k.Dot dot mid t1 s1)) (select-is x w dot mid t1 rest (omega arith) s1 s2 free) (omega arith) in
       record {
         reaches = record {
-          height = b.height + 1; low = omega arith; left = j; enough = enough;
-          is = b.is ∙ same ∙ ap (λ e. turns_from (sees k.Dot) (selection inner room) j (tall e (b.height + 1)) rest) (ap (λ e. tree.Select e w) (roll-out-Expr from) ∙ sym (rolls-Select from w))
+          height = b.height + 1;
+          low = omega arith;
+          left = j;
+          enough = enough;
+          is = b.is ∙ same ∙ ap (λ e. turns_from (sees k.Dot) (selection inner room) j (tall e (b.height + 1)) rest) (ap (λ e. tree.Select e w) (roll-out-Expr from) ∙ sym (rolls-Select from w));
         };
-        kind = before.kind; next = before.next; leading = before.leading
+        kind = before.kind;
+        next = before.next;
+        leading = before.leading;
       }
   post-reaches (suc m) (Expr-F.CallOn from w args closing) ts rest fits (low, (mid, s, (t1, dot_at, (t2, s2, (t3, open_at, tail))))) free =
       let (dot, s1) = sign-mark k.Dot mid t1 dot_at in
@@ -123,13 +130,18 @@ module _ (room : ℕ) (inner : ℕ → Parser Tall) (known : Reading-sound room 
       let fit : found.height ≤ suc m = found.low in
       let x : Tall = tall (roll-Expr (out-Expr from)) b.height in
       let (j, enough, same) = turn_once (sees k.Dot) (selection inner room) b.left x (tall (tree.CallOn x.expr w args closing) (max x.height found.height + 1)) mid rest b.enough (sees-kind k.Dot k.Dot mid (next-sign k.Dot dot mid t1 s1))
-          (call-is x w given dot mid t1 t2 t3 rest (omega arith) s1 s2 open_at found.is) (omega arith) in
+      (call-is x w given dot mid t1 t2 t3 rest (omega arith) s1 s2 open_at found.is) (omega arith) in
       record {
         reaches = record {
-          height = max b.height found.height + 1; low = omega arith; left = j; enough = enough;
-          is = b.is ∙ same ∙ ap (λ e. turns_from (sees k.Dot) (selection inner room) j (tall e (max b.height found.height + 1)) rest) (ap (λ e. tree.CallOn e w args closing) (roll-out-Expr from) ∙ sym (rolls-CallOn from w args closing))
+          height = max b.height found.height + 1;
+          low = omega arith;
+          left = j;
+          enough = enough;
+          is = b.is ∙ same ∙ ap (λ e. turns_from (sees k.Dot) (selection inner room) j (tall e (max b.height found.height + 1)) rest) (ap (λ e. tree.CallOn e w args closing) (roll-out-Expr from) ∙ sym (rolls-CallOn from w args closing));
         };
-        kind = before.kind; next = before.next; leading = before.leading
+        kind = before.kind;
+        next = before.next;
+        leading = before.leading;
       }
   post-reaches m (Expr-F.Not at e) ts rest fits (low, s) free = absurd (omega arith)
   post-reaches m (Expr-F.Neg at e) ts rest fits (low, s) free = absurd (omega arith)
@@ -142,7 +154,9 @@ module _ (room : ℕ) (inner : ℕ → Parser Tall) (known : Reading-sound room 
       let b = found.reaches in
       record {
         finds = record { height = b.height; low = b.low; is = b.is ∙ turn_ends (sees k.Dot) (selection inner room) b.left (tall (roll-Expr f) b.height) rest b.enough stop };
-        kind = found.kind; next = found.next; leading = found.leading
+        kind = found.kind;
+        next = found.next;
+        leading = found.leading;
       }
 
   -- ---- signs before an operand
@@ -209,10 +223,13 @@ module _ (room : ℕ) (inner : ℕ → Parser Tall) (known : Reading-sound room 
       let fit : y.height ≤ suc m = y.low in
       let x : Tall = tall (roll-Expr (out-Expr l)) b.height in
       let (j, enough, same) = turn_once (climbs least) (climb inner room least) b.left x (binary_tree x o at (tall r y.height)) mid rest b.enough (climbs-on least o mid next (omega arith))
-          (operation-is least x o at r y.height mid t1 rest (omega arith) (omega arith) s1 y.is) (omega arith) in
+      (operation-is least x o at r y.height mid t1 rest (omega arith) (omega arith) s1 y.is) (omega arith) in
       record {
-        height = max b.height y.height + 1; low = omega arith; left = j; enough = enough;
-        is = b.is ∙ same ∙ ap (λ e. turns_from (climbs least) (climb inner room least) j (tall e (max b.height y.height + 1)) rest) (ap (λ e. tree.Binary e o at r) (roll-out-Expr l) ∙ sym (rolls-Binary l o at r))
+        height = max b.height y.height + 1;
+        low = omega arith;
+        left = j;
+        enough = enough;
+        is = b.is ∙ same ∙ ap (λ e. turns_from (climbs least) (climb inner room least) j (tall e (max b.height y.height + 1)) rest) (ap (λ e. tree.Binary e o at r) (roll-out-Expr l) ∙ sym (rolls-Binary l o at r));
       }
   level-reaches least m p f ts rest fits above s closed = level-unary least m p f ts rest fits refl s closed
 

@@ -130,7 +130,7 @@ unfolding next_operator
 closed-operator o ts e = record {
   operators = rw (e, operator_sign o, lt-ltb (level_of o) (level_of o + 1) (omega arith)) refl;
   dot = sees-kind k.Dot (sign_of o) ts e ∙ no_dot o;
-  call = sees-kind k.LParen (sign_of o) ts e ∙ no_call o
+  call = sees-kind k.LParen (sign_of o) ts e ∙ no_call o;
 }
 
 -- ---- with what an expression begins
@@ -264,7 +264,7 @@ module _ (room : ℕ) (inner : ℕ → Parser Tall) (known : Reading-sound room 
       record {
         height = found.height;
         low = low;
-        is = turn_ends (sees k.Comma) (one_more inner) j found ts enough off ∙ ap (λ r. Found found r) each ∙ ap (λ l. Found (record { items = l; height = found.height }) rest) (sym (append-nil found.items))
+        is = turn_ends (sees k.Comma) (one_more inner) j found ts enough off ∙ ap (λ r. Found found r) each ∙ ap (λ l. Found (record { items = l; height = found.height }) rest) (sym (append-nil found.items));
       }
   more-complete m j found (x ∷ xs) ts rest fits enough (t2, (t1, comma, s), each) end low =
       let (at, c) = sign-mark k.Comma ts t1 comma in
@@ -313,18 +313,24 @@ module _ (room : ℕ) (inner : ℕ → Parser Tall) (known : Reading-sound room 
   unfolding primary
   leaf-sign kind at make f m ts rest is leading by s = record {
     finds = record { height = 1; low = omega arith; is = rw (next-sign kind at ts rest s) (ap (λ p. p ts) by ∙ rw (sign-complete kind ts rest at s) (same-tree 1 rest (sym is))) };
-    kind = kind; next = next-sign kind at ts rest s; leading = leading
+    kind = kind;
+    next = next-sign kind at ts rest s;
+    leading = leading;
   }
 
   pub primary-complete : (m p : ℕ) (f : Expr-F Expr) (ts rest : List Token) → m ≤ room → is_primary f ≡ true → Layered m (Spells m) p f ts rest → sees k.LParen rest ≡ false → Leads (m + 1) (primary inner ts) (roll-Expr f) ts rest
   unfolding primary small named created parenthesized
   primary-complete m p (Expr-F.Int w) ts rest fits is (other, s) free = record {
     finds = record { height = 1; low = omega arith; is = rw (next-word k.IntLiteral w ts rest s, word-complete k.IntLiteral ts rest w s, other_bytes w.name smallest_digits other) (same-tree 1 rest (sym (rolls-Int w))) };
-    kind = k.IntLiteral; next = next-word k.IntLiteral w ts rest s; leading = refl
+    kind = k.IntLiteral;
+    next = next-word k.IntLiteral w ts rest s;
+    leading = refl;
   }
   primary-complete m p (Expr-F.Str w) ts rest fits is s free = record {
     finds = record { height = 1; low = omega arith; is = rw (next-word k.StrLiteral w ts rest s, word-complete k.StrLiteral ts rest w s) (same-tree 1 rest (sym (rolls-Str w))) };
-    kind = k.StrLiteral; next = next-word k.StrLiteral w ts rest s; leading = refl
+    kind = k.StrLiteral;
+    next = next-word k.StrLiteral w ts rest s;
+    leading = refl;
   }
   primary-complete m p (Expr-F.True at) ts rest fits is s free = leaf-sign k.True at (λ at. tree.True at) (Expr-F.True at) m ts rest (rolls-True at) refl refl s
   primary-complete m p (Expr-F.False at) ts rest fits is s free = leaf-sign k.False at (λ at. tree.False at) (Expr-F.False at) m ts rest (rolls-False at) refl refl s
@@ -332,36 +338,47 @@ module _ (room : ℕ) (inner : ℕ → Parser Tall) (known : Reading-sound room 
   primary-complete m p (Expr-F.This at) ts rest fits is s free = leaf-sign k.This at (λ at. tree.This at) (Expr-F.This at) m ts rest (rolls-This at) refl refl s
   primary-complete m p (Expr-F.Name w) ts rest fits is s free = record {
     finds = record { height = 1; low = omega arith; is = rw (next-word k.Name w ts rest s, word-complete k.Name ts rest w s, free) (same-tree 1 rest (sym (rolls-Name w))) };
-    kind = k.Name; next = next-word k.Name w ts rest s; leading = refl
+    kind = k.Name;
+    next = next-word k.Name w ts rest s;
+    leading = refl;
   }
   primary-complete m p (Expr-F.Call w args closing) ts rest fits is (t1, s, (t2, open_at, tail)) free =
       let a = args-complete m args closing t1 rest fits (t2, open_at, tail) in
       let h : a.height ≤ m = a.low in
       record {
         finds = record {
-          height = a.height + 1; low = omega arith;
-          is = rw (next-word k.Name w ts t1 s, word-complete k.Name ts t1 w s, sees-kind k.LParen k.LParen t1 (next-mark k.LParen t1 t2 open_at), a.is) (same-tree (a.height + 1) rest (sym (rolls-Call w args closing)))
+          height = a.height + 1;
+          low = omega arith;
+          is = rw (next-word k.Name w ts t1 s, word-complete k.Name ts t1 w s, sees-kind k.LParen k.LParen t1 (next-mark k.LParen t1 t2 open_at), a.is) (same-tree (a.height + 1) rest (sym (rolls-Call w args closing)));
         };
-        kind = k.Name; next = next-word k.Name w ts t1 s; leading = refl
+        kind = k.Name;
+        next = next-word k.Name w ts t1 s;
+        leading = refl;
       }
   primary-complete m p (Expr-F.New at w args closing) ts rest fits is (other, (t1, s1, (t2, s2, tail))) free =
       let a = args-complete m args closing t2 rest fits tail in
       let h : a.height ≤ m = a.low in
       record {
         finds = record {
-          height = a.height + 1; low = omega arith;
-          is = rw (next-sign k.New at ts t1 s1, sign-complete k.New ts t1 at s1, class_name-complete w t1 t2 other s2, a.is) (same-tree (a.height + 1) rest (sym (rolls-New at w args closing)))
+          height = a.height + 1;
+          low = omega arith;
+          is = rw (next-sign k.New at ts t1 s1, sign-complete k.New ts t1 at s1, class_name-complete w t1 t2 other s2, a.is) (same-tree (a.height + 1) rest (sym (rolls-New at w args closing)));
         };
-        kind = k.New; next = next-sign k.New at ts t1 s1; leading = refl
+        kind = k.New;
+        next = next-sign k.New at ts t1 s1;
+        leading = refl;
       }
   primary-complete m p (Expr-F.Paren opening e closing) ts rest fits is (t1, s1, (t2, s2, s3)) free =
       let y = complete m 1 e t1 t2 fits (lit≤ tt) s2 (closed-by 1 k.RParen t2 (next-sign k.RParen closing t2 rest s3) refl refl refl) in
       let h : y.height ≤ m = y.low in
       record {
         finds = record {
-          height = y.height + 1; low = omega arith;
-          is = rw (next-sign k.LParen opening ts t1 s1, sign-complete k.LParen ts t1 opening s1, y.is, sign-complete k.RParen t2 rest closing s3) (same-tree (y.height + 1) rest (sym (rolls-Paren opening e closing)))
+          height = y.height + 1;
+          low = omega arith;
+          is = rw (next-sign k.LParen opening ts t1 s1, sign-complete k.LParen ts t1 opening s1, y.is, sign-complete k.RParen t2 rest closing s3) (same-tree (y.height + 1) rest (sym (rolls-Paren opening e closing)));
         };
-        kind = k.LParen; next = next-sign k.LParen opening ts t1 s1; leading = refl
+        kind = k.LParen;
+        next = next-sign k.LParen opening ts t1 s1;
+        leading = refl;
       }
   primary-complete m p _ ts rest fits is s free = cc

@@ -116,5 +116,5 @@ pub one_expr : (limit : ℕ) (ts one_rest other_rest : List Token) (one other : 
     → (one ≡ other) × (one_rest ≡ other_rest)
 one_expr limit ts one_rest other_rest one other a b s t =
     one_found ts one_rest other_rest one other (expr limit 1 ts)
-        (expr-complete limit limit 1 one ts one_rest (le_refl limit) (lit≤ tt) a (closed-end 1 one_rest b))
-        (expr-complete limit limit 1 other ts other_rest (le_refl limit) (lit≤ tt) s (closed-end 1 other_rest t))
+    (expr-complete limit limit 1 one ts one_rest (le_refl limit) (lit≤ tt) a (closed-end 1 one_rest b))
+    (expr-complete limit limit 1 other ts other_rest (le_refl limit) (lit≤ tt) s (closed-end 1 other_rest t))

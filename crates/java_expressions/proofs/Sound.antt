@@ -218,16 +218,18 @@ module _ (room : ℕ) (inner : ℕ → Parser Tall) (known : Reading-sound room 
       let a : length ts ≡ suc (length t1) = sign-shorter k.Comma ts t1 comma s1 in
       let b : length t2 < length t1 = item.shorter in
       let d : length ts ≤ length start = many.is_list.shorter in
-      pure-is (λ y r. IsMany start y r × (y.height ≤ room)) (with_item x z) y t2 rest e2
-      (record {
-        is_list = record {
-          shorter = omega arith;
-          spelled = λ m h. separated-snoc (Spells m 1) x.items many.tail many.head z.expr start ts t1 t2 many.is (many.is_list.spelled m (omega arith)) (mark-sign k.Comma comma ts t1 s1) (item.spelled m 1 (omega arith) (lit≤ tt))
-        };
-        head = many.head;
-        tail = many.tail ++ z.expr ∷ [];
-        is = snoc-some x.items many.head z.expr many.tail many.is
-      }, omega arith)
+      pure-is (λ y r. IsMany start y r × (y.height ≤ room)) (with_item x z) y t2 rest e2 (
+        record {
+          is_list = record {
+            shorter = omega arith;
+            spelled = λ m h. separated-snoc (Spells m 1) x.items many.tail many.head z.expr start ts t1 t2 many.is (many.is_list.spelled m (omega arith)) (mark-sign k.Comma comma ts t1 s1) (item.spelled m 1 (omega arith) (lit≤ tt));
+          };
+          head = many.head;
+          tail = many.tail ++ z.expr ∷ [];
+          is = snoc-some x.items many.head z.expr many.tail many.is;
+        },
+        omega arith,
+      )
 
   first-many : (z : Tall) (ts mid : List Token) → IsNode 1 ts z mid → IsMany ts (with_item none z) mid
   first-many z ts mid item =
@@ -236,7 +238,7 @@ module _ (room : ℕ) (inner : ℕ → Parser Tall) (known : Reading-sound room 
         is_list = record { shorter = omega arith; spelled = λ m h. (mid, item.spelled m 1 (omega arith) (lit≤ tt), refl) };
         head = z.expr;
         tail = [];
-        is = refl
+        is = refl;
       }
 
   more_items-sound : (start ts rest : List Token) (x y : Listed) → IsMany start x ts → x.height ≤ room → turns (sees k.Comma) (one_more inner) x ts ≡ Found y rest → IsMany start y rest × (y.height ≤ room)
@@ -302,9 +304,11 @@ module _ (room : ℕ) (inner : ℕ → Parser Tall) (known : Reading-sound room 
       let b : length ts ≡ suc (length t1) = sign-shorter k.New ts t1 at s1 in
       let d : length t1 ≡ suc (length t2) = word-shorter k.Name t1 t2 w s2 in
       let g : length t3 < length t2 = args.shorter in
-      pure-is (λ y r. IsNode 8 ts y r × (y.height ≤ room + 1)) (new_tree at w a) y t3 rest e3
-      (node (Expr-F.New at w a.items a.closing) (tree.New at w a.items a.closing) a.height 8 ts t3 (outs-New at w a.items a.closing) (omega arith)
-          (λ n p h low. (other, (t1, s1, (t2, s2, args.spelled n h)))), omega arith)
+      pure-is (λ y r. IsNode 8 ts y r × (y.height ≤ room + 1)) (new_tree at w a) y t3 rest e3 (
+        node (Expr-F.New at w a.items a.closing) (tree.New at w a.items a.closing) a.height 8 ts t3 (outs-New at w a.items a.closing) (omega arith)
+            (λ n p h low. (other, (t1, s1, (t2, s2, args.spelled n h)))),
+        omega arith,
+      )
 
   parenthesized-sound : (ts rest : List Token) (y : Tall) → parenthesized inner ts ≡ Found y rest → IsNode 8 ts y rest × (y.height ≤ room + 1)
   unfolding parenthesized
@@ -318,9 +322,11 @@ module _ (room : ℕ) (inner : ℕ → Parser Tall) (known : Reading-sound room 
       let b : length ts ≡ suc (length t1) = sign-shorter k.LParen ts t1 opening s1 in
       let d : length t2 < length t1 = inside.shorter in
       let g : length t2 ≡ suc (length t3) = sign-shorter k.RParen t2 t3 closing s3 in
-      pure-is (λ y r. IsNode 8 ts y r × (y.height ≤ room + 1)) (paren_tree opening z closing) y t3 rest e3
-      (node (Expr-F.Paren opening z.expr closing) (tree.Paren opening z.expr closing) z.height 8 ts t3 (outs-Paren opening z.expr closing) (omega arith)
-          (λ n p h at. (t1, s1, (t2, inside.spelled n 1 h (lit≤ tt), s3))), omega arith)
+      pure-is (λ y r. IsNode 8 ts y r × (y.height ≤ room + 1)) (paren_tree opening z closing) y t3 rest e3 (
+        node (Expr-F.Paren opening z.expr closing) (tree.Paren opening z.expr closing) z.height 8 ts t3 (outs-Paren opening z.expr closing) (omega arith)
+            (λ n p h at. (t1, s1, (t2, inside.spelled n 1 h (lit≤ tt), s3))),
+        omega arith,
+      )
 
   leaf-low : (ts rest : List Token) (y : Tall) → IsNode 8 ts y rest → y.height ≡ 1 → IsNode 8 ts y rest × (y.height ≤ room + 1)
   leaf-low ts rest y is one = (is, omega arith)
@@ -376,16 +382,20 @@ module _ (room : ℕ) (inner : ℕ → Parser Tall) (known : Reading-sound room 
       let d : length t1 ≡ suc (length t2) = word-shorter k.Name t1 t2 w s2 in
       let g : length t3 < length t2 = args.shorter in
       let h : length ts < length start = from.shorter in
-      pure-is (λ y r. IsNode 8 start y r × (y.height ≤ room + 1)) (call_on_tree x w a) y t3 rest e3
-      (node (Expr-F.CallOn x.expr w a.items a.closing) (tree.CallOn x.expr w a.items a.closing) (max x.height a.height) 8 start t3 (outs-CallOn x.expr w a.items a.closing) (omega arith)
-          (λ n p h at. (at, (ts, from.spelled n 8 (omega arith) (lit≤ tt), (t1, mark-sign k.Dot dot ts t1 s1, (t2, s2, args.spelled n (omega arith)))))), omega arith)
+      pure-is (λ y r. IsNode 8 start y r × (y.height ≤ room + 1)) (call_on_tree x w a) y t3 rest e3 (
+        node (Expr-F.CallOn x.expr w a.items a.closing) (tree.CallOn x.expr w a.items a.closing) (max x.height a.height) 8 start t3 (outs-CallOn x.expr w a.items a.closing) (omega arith)
+            (λ n p h at. (at, (ts, from.spelled n 8 (omega arith) (lit≤ tt), (t1, mark-sign k.Dot dot ts t1 s1, (t2, s2, args.spelled n (omega arith)))))),
+        omega arith,
+      )
   selected_by-sound false x y w dot start ts t1 t2 rest from low s1 s2 e =
       let b : length ts ≡ suc (length t1) = sign-shorter k.Dot ts t1 dot s1 in
       let d : length t1 ≡ suc (length t2) = word-shorter k.Name t1 t2 w s2 in
       let h : length ts < length start = from.shorter in
-      pure-is (λ y r. IsNode 8 start y r × (y.height ≤ room + 1)) (select_tree x w) y t2 rest e
-      (node (Expr-F.Select x.expr w) (tree.Select x.expr w) x.height 8 start t2 (outs-Select x.expr w) (omega arith)
-          (λ n p h at. (at, (ts, from.spelled n 8 h (lit≤ tt), (t1, mark-sign k.Dot dot ts t1 s1, s2)))), omega arith)
+      pure-is (λ y r. IsNode 8 start y r × (y.height ≤ room + 1)) (select_tree x w) y t2 rest e (
+        node (Expr-F.Select x.expr w) (tree.Select x.expr w) x.height 8 start t2 (outs-Select x.expr w) (omega arith)
+            (λ n p h at. (at, (ts, from.spelled n 8 h (lit≤ tt), (t1, mark-sign k.Dot dot ts t1 s1, s2)))),
+        omega arith,
+      )
 
   selection_by : (b : Bool) (x y : Tall) (start ts rest : List Token) → IsNode 8 start x ts → nat_lt room x.height ≡ b
       → cond b fail (sign k.Dot >>= (λ _. word k.Name >>= (λ name ts. selected_by inner x name (sees k.LParen ts) ts))) ts ≡ Found y rest → IsNode 8 start y rest × (y.height ≤ room + 1)
@@ -423,9 +433,11 @@ module _ (room : ℕ) (inner : ℕ → Parser Tall) (known : Reading-sound room 
       let (operand, low, off) = known 7 t1 t2 z (lit≤ tt) is2 in
       let b : length ts ≡ suc (length t1) = sign-shorter k.Not ts t1 at s1 in
       let d : length t2 < length t1 = operand.shorter in
-      pure-is (λ y r. IsNode 7 ts y r × (y.height ≤ room + 1)) (not_tree at z) y t2 rest e2
-      (node (Expr-F.Not at z.expr) (tree.Not at z.expr) z.height 7 ts t2 (outs-Not at z.expr) (omega arith)
-          (λ n p h low. (low, (t1, s1, operand.spelled n 7 h (lit≤ tt)))), omega arith)
+      pure-is (λ y r. IsNode 7 ts y r × (y.height ≤ room + 1)) (not_tree at z) y t2 rest e2 (
+        node (Expr-F.Not at z.expr) (tree.Not at z.expr) z.height 7 ts t2 (outs-Not at z.expr) (omega arith)
+            (λ n p h low. (low, (t1, s1, operand.spelled n 7 h (lit≤ tt)))),
+        omega arith,
+      )
 
   both : (a b : Bool) → (a && b) ≡ true → b ≡ true
   both true b e = e
@@ -456,9 +468,11 @@ module _ (room : ℕ) (inner : ℕ → Parser Tall) (known : Reading-sound room 
       let b : length ts ≡ suc (length t1) = sign-shorter k.Minus ts t1 at s1 in
       let d : length t1 ≡ suc (length t2) = word-shorter k.IntLiteral t1 t2 w s2 in
       let room_is : 1 ≤ room = positive room is in
-      pure-is (λ y r. IsNode 7 ts y r × (y.height ≤ room + 1)) (smallest_tree at w) y t2 rest e2
-      (node (Expr-F.Neg at (tree.Int w)) (tree.Neg at (tree.Int w)) 1 7 ts t2 (outs-Neg at (tree.Int w)) (omega arith)
-          (λ n p h low. (low, (t1, s1, inr (h, smallest-int w t1 t2 big s2)))), omega arith)
+      pure-is (λ y r. IsNode 7 ts y r × (y.height ≤ room + 1)) (smallest_tree at w) y t2 rest e2 (
+        node (Expr-F.Neg at (tree.Int w)) (tree.Neg at (tree.Int w)) 1 7 ts t2 (outs-Neg at (tree.Int w)) (omega arith)
+            (λ n p h low. (low, (t1, s1, inr (h, smallest-int w t1 t2 big s2)))),
+        omega arith,
+      )
 
   negated_by-sound : (b : Bool) (at : Span) (y : Tall) (ts t1 rest : List Token) → Sign k.Minus at ts t1 → sees_smallest t1 ≡ b → negated_by inner room at b t1 ≡ Found y rest → IsNode 7 ts y rest × (y.height ≤ room + 1)
   unfolding smallest
@@ -468,9 +482,11 @@ module _ (room : ℕ) (inner : ℕ → Parser Tall) (known : Reading-sound room 
       let (operand, low, off) = known 7 t1 t2 z (lit≤ tt) is2 in
       let b : length ts ≡ suc (length t1) = sign-shorter k.Minus ts t1 at s1 in
       let d : length t2 < length t1 = operand.shorter in
-      pure-is (λ y r. IsNode 7 ts y r × (y.height ≤ room + 1)) (neg_tree at z) y t2 rest e2
-      (node (Expr-F.Neg at z.expr) (tree.Neg at z.expr) z.height 7 ts t2 (outs-Neg at z.expr) (omega arith)
-          (λ n p h low. (low, (t1, s1, inl (operand.spelled n 7 h (lit≤ tt))))), omega arith)
+      pure-is (λ y r. IsNode 7 ts y r × (y.height ≤ room + 1)) (neg_tree at z) y t2 rest e2 (
+        node (Expr-F.Neg at z.expr) (tree.Neg at z.expr) z.height 7 ts t2 (outs-Neg at z.expr) (omega arith)
+            (λ n p h low. (low, (t1, s1, inl (operand.spelled n 7 h (lit≤ tt))))),
+        omega arith,
+      )
 
   negated-sound : (ts rest : List Token) (y : Tall) → negated inner room ts ≡ Found y rest → IsNode 7 ts y rest × (y.height ≤ room + 1)
   unfolding negated
@@ -508,7 +524,7 @@ module _ (room : ℕ) (inner : ℕ → Parser Tall) (known : Reading-sound room 
             (λ n p h fits. (fits, (ts, from.node.spelled n (level_of o) (omega arith) under, (t1, s1, right.spelled n (level_of o + 1) (omega arith) (omega arith)))));
         loose = loose;
         low = omega arith;
-        stops = λ l other next. unbound_next (level_of o) l t2 other next off
+        stops = λ l other next. unbound_next (level_of o) l t2 other next off;
       })
 
   climb_by-sound : (least : ℕ) (next : Option BinaryOp) (x y : Tall) (start ts rest : List Token) → Climbing room least start x ts → next_operator least ts ≡ next → climb_by inner room x next ts ≡ Found y rest → Climbing room least start y rest

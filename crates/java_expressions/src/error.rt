@@ -1,8 +1,7 @@
+use desk_base::OutOfMemory;
 use std::alloc::{AllocError, AllocFailed};
 use std::error::Error;
 use std::fmt;
-
-use desk_base::OutOfMemory;
 
 /// Why the tokens weren't read.
 #[derive(Clone, Copy, Debug, PartialEq, Eq)]

@@ -412,12 +412,7 @@ impl<F: Fn(Global, &mut Tokens, u8, u8) -> Result<Tall, SyntaxError>> Grammar<F>
     }
 
     /// The operators of the level and tighter ones that follow the expression.
-    fn operations(
-        &self,
-        tokens: &mut Tokens,
-        least: u8,
-        left: Tall,
-    ) -> Result<Tall, SyntaxError>
+    fn operations(&self, tokens: &mut Tokens, least: u8, left: Tall) -> Result<Tall, SyntaxError>
         requires { Nests self.now.room (F.pre self.now.expr) (F.post self.now.expr) }
         ensures { Steps (turns (spec.climbs least) (spec.climb (spec.expr self.now.room) self.now.room least) left) tokens.old result tokens.new }
     {
@@ -478,11 +473,7 @@ pub(crate) fn post_within(
 }
 
 /// A whole expression, behind which no sign stands by which it would go on.
-pub(crate) fn ended_expr(
-    alloc: Global,
-    tokens: &mut Tokens,
-    limit: u8,
-) -> Result<Expr, SyntaxError>
+pub(crate) fn ended_expr(alloc: Global, tokens: &mut Tokens, limit: u8) -> Result<Expr, SyntaxError>
     ensures { Steps (spec.ended (spec.expr limit 1)) tokens.old result tokens.new }
 {
     let read = expr(alloc, tokens, limit, 1)?;
@@ -493,11 +484,7 @@ pub(crate) fn ended_expr(
 }
 
 /// The same of an expression without an operator.
-pub(crate) fn ended_post(
-    alloc: Global,
-    tokens: &mut Tokens,
-    limit: u8,
-) -> Result<Expr, SyntaxError>
+pub(crate) fn ended_post(alloc: Global, tokens: &mut Tokens, limit: u8) -> Result<Expr, SyntaxError>
     ensures { Steps (spec.ended (spec.post_within limit)) tokens.old result tokens.new }
 {
     let read = post_within(alloc, tokens, limit)?;

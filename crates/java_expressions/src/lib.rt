@@ -8,6 +8,8 @@ mod laws;
 mod operators;
 mod reader;
 mod tall;
+#[cfg(test)]
+mod tests;
 mod tokens;
 
 pub use error::SyntaxError;

@@ -125,8 +125,7 @@ impl Tokens {
     {
         match self.first() {
             Some(token) => {
-                token.kind == Kind::IntLiteral
-                    && token.bytes.as_slice() == b"2147483648".as_slice()
+                token.kind == Kind::IntLiteral && token.bytes.as_slice() == b"2147483648".as_slice()
             }
             None => false,
         }

@@ -20,7 +20,7 @@ more-smaller g c = one_more-shorter c.args.self.now.room _ _ _ _ c.in_ok-found.e
 pub more-preserved : goal.more-preserved
 more-preserved g c = record {
   reads = turn_goes (sees k.Comma) (one_more (expr c.args.self.now.room)) _ _ _ _ _ _ c.more.invariant.reads (sym c.sees.ensures ∙ c.more-test.true) c.in_ok-found.ensures.0 (one_more-shorter c.args.self.now.room _ _ _ _ c.in_ok-found.ensures.0);
-  moved = c.in_ok-found.ensures.1 ∙ c.more.invariant.moved
+  moved = c.in_ok-found.ensures.1 ∙ c.more.invariant.moved;
 }
 
 pub returns : goal.returns

@@ -15,7 +15,7 @@ returns-in_err-left g c =
     let room = c.args.self.now.room in
     let least = c.args.least in
     let lost : operation (expr room) room c.more.left c.in-Some.operator (ahead c.more.tokens) ≡ Lost → turns (climbs least) (climb (expr room) room least) c.args.left (ahead c.args.tokens.now) ≡ Lost =
-        λ l. loop_fails (climbs least) (climb (expr room) room least) _ _ _ _ c.more.invariant.reads (ap is_some next) (climb_lost room least c.more.left c.in-Some.operator (ahead c.more.tokens) next l) in
+    λ l. loop_fails (climbs least) (climb (expr room) room least) _ _ _ _ c.more.invariant.reads (ap is_some next) (climb_lost room least c.more.left c.in-Some.operator (ahead c.more.tokens) next l) in
     search rules
 
 pub more-smaller : goal.more-smaller
@@ -27,7 +27,7 @@ more-preserved g c =
     record {
       reads = turn_goes (climbs c.args.least) (climb (expr c.args.self.now.room) c.args.self.now.room c.args.least) _ _ _ _ _ _ c.more.invariant.reads (ap is_some next)
           (climb_is c.args.self.now.room c.args.least _ _ _ next ∙ c.in_ok-left.ensures.0) (operation-shorter c.args.self.now.room _ _ _ _ _ c.in_ok-left.ensures.0);
-      moved = c.in_ok-left.ensures.1 ∙ c.more.invariant.moved
+      moved = c.in_ok-left.ensures.1 ∙ c.more.invariant.moved;
     }
 
 pub returns : goal.returns

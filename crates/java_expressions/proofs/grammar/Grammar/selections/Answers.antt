@@ -20,7 +20,7 @@ more-smaller g c = selection-shorter c.args.self.now.room _ _ _ _ c.in_ok-from.e
 pub more-preserved : goal.more-preserved
 more-preserved g c = record {
   reads = turn_goes (sees k.Dot) (selection (expr c.args.self.now.room) c.args.self.now.room) _ _ _ _ _ _ c.more.invariant.reads (sym c.sees.ensures ∙ c.more-test.true) c.in_ok-from.ensures.0 (selection-shorter c.args.self.now.room _ _ _ _ c.in_ok-from.ensures.0);
-  moved = c.in_ok-from.ensures.1 ∙ c.more.invariant.moved
+  moved = c.in_ok-from.ensures.1 ∙ c.more.invariant.moved;
 }
 
 pub returns : goal.returns

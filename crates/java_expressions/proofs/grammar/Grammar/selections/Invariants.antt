@@ -9,7 +9,7 @@ use Rattle.java_expressions.proofs.grammar.Grammar.selections.Given as goal
 abbrev pub invariant-more : goal.invariant-more
 invariant-more g l = record {
   reads : Continues (sees k.Dot) (selection (expr l.self.room) l.self.room) (ahead l.initial.tokens) l.initial.from l.from (ahead l.tokens);
-  moved : from_start l.tokens ≡ from_start l.initial.tokens
+  moved : from_start l.tokens ≡ from_start l.initial.tokens;
 }
 
 abbrev pub decreases-more : goal.decreases-more

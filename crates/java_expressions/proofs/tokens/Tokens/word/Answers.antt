@@ -7,6 +7,7 @@ returns-then-ne c = λ _. word_lost _ _ _ _ c.in-Some.ensures.token (off _ _ c.n
 
 pub returns : goal.returns
 returns c =
-    let same : c.in_ok-name.name ≡ c.in-Some.token.bytes = c.in_ok-name.ensures ∙ c.as_slice.ensures in
-    (word_found _ _ _ _ _ same c.in-Some.ensures.token (on _ _ c.ne.ensures c.if-ne.false),
-     moved _ _ _ _ _ _ c.take.ensures.taken c.in_ok-push.ensures.ok c.in-Some.ensures.token)
+    let same : c.in_ok-name.name ≡ c.in-Some.token.bytes = c.in_ok-name.ensures ∙ c.as_slice.ensures in (
+      word_found _ _ _ _ _ same c.in-Some.ensures.token (on _ _ c.ne.ensures c.if-ne.false),
+      moved _ _ _ _ _ _ c.take.ensures.taken c.in_ok-push.ensures.ok c.in-Some.ensures.token,
+    )
