@@ -1,5 +1,5 @@
 -- Selections, signs before an operand and operators, as far as tokens spell them, are found.
-use Rattle.std.proofs.Common.{◌≡◌, ◌≢◌, ◌⊎◌, ℕ, zero, suc, ◌+◌, ◌<◌, ◌≤◌, max, Bool, true, false, cond, nat_lt, ◌==◌, List, [], ◌∷◌, length, Option, Some, None, is_some, refl, ap, ◌∙◌, sym, subst, arith, rules, inl, inr, lit≤}
+use Rattle.std.proofs.Common.{◌≡◌, ℕ, zero, suc, ◌+◌, ◌<◌, ◌≤◌, max, Bool, true, false, ◌==◌, List, length, Some, refl, ap, ◌∙◌, sym, arith, inl, inr, lit≤}
 use Rattle.std.proofs.lemmas.Bool.{le-ltb}
 use Rattle.std.proofs.Math.Dec.{eqb-suc-zero}
 use Rattle.std.specs.Str.{bytes_eq}
@@ -17,14 +17,14 @@ use Rattle.java_tree.specs.declared.expr.Expr.TheVariants.{rolls-Int, rolls-Sele
 use Rattle.java_tree.specs.declared.expr.BinaryOp.{BinaryOp}
 use Rattle.java_expressions.specs.declared.tall.Tall.{Tall}
 use Rattle.java_expressions.specs.declared.tall.Arguments.{Arguments}
-use Rattle.java_expressions.specs.Phrase.{Phrase, ◌⨾◌, ◌⊢◌, ◌∣◌, Mark, Sign, Spelled, word_of}
-use Rattle.java_expressions.specs.Spelling.{sign_of, level_of, smallest_digits, Smallest, Args, Layered, Spells}
-use Rattle.java_expressions.specs.Parser.{Outcome, Found, Lost, Parser, and_then, ◌>>=◌, pure, fail, same_kind, next_kind, sees, sign, word, turns_from, turns}
-use Rattle.java_expressions.specs.Reading.{tall, binary_tree, primary, selected_by, selection, post, post_within, inverted, smallest, negated_by, negated, unary_by, unary, operation, climb_by, climb, climbs, level, expr, next_operator, arguments, sees_smallest}
-use Rattle.java_expressions.proofs.Phrases.{next-sign, next-mark, next-word, sign-complete, word-complete, sign-mark}
+use Rattle.java_expressions.specs.Phrase.{Mark, Sign, Spelled}
+use Rattle.java_expressions.specs.Spelling.{sign_of, level_of, smallest_digits, Smallest, Layered, Spells}
+use Rattle.java_expressions.specs.Parser.{Outcome, Found, Parser, next_kind, sees, word, turns_from, turns}
+use Rattle.java_expressions.specs.Reading.{tall, binary_tree, selection, post, post_within, inverted, smallest, negated, unary_by, unary, operation, climb, climbs, level, expr, arguments, sees_smallest}
+use Rattle.java_expressions.proofs.Phrases.{next-sign, next-mark, sign-complete, word-complete, sign-mark}
 use Rattle.java_expressions.proofs.Loops.{turn_once, turn_ends}
 use Rattle.java_expressions.proofs.Sound.{Reading-sound, sign-shorter, word-shorter, next-level, arguments-sound, expr-sound}
-use Rattle.java_expressions.proofs.Complete.{sees-kind, Closed, closed-operator, next_is, tighter, seven, spells-opens, is_unary, is_post, is_primary, leads, as_post, Finds, FindsArgs, Reading-complete, Leads, same-tree, args-complete, primary-complete}
+use Rattle.java_expressions.proofs.Complete.{sees-kind, Closed, closed-operator, next_is, tighter, seven, spells-opens, is_unary, is_post, is_primary, leads, as_post, Finds, Reading-complete, Leads, same-tree, args-complete, primary-complete}
 
 -- A loop has come to the expression, and may go on at rest.
 pub record Reaches (m : ℕ) (outcome : Outcome Tall) (goes : List Token → Bool) (turn : Tall → Parser Tall) (e : Expr) (rest : List Token) : Type 0 where

@@ -1,8 +1,8 @@
 -- What tokens spell, the reader finds.
-use Rattle.std.proofs.Common.{◌≡◌, ◌≢◌, ◌⊎◌, ℕ, zero, suc, ◌+◌, ◌<◌, ◌≤◌, max, Bool, true, false, cond, nat_lt, ◌==◌, ◌&&◌, List, [], ◌∷◌, ◌++◌, length, Option, Some, None, is_some, codes, refl, ap, ◌∙◌, sym, subst, arith, rules, inl, inr, lit≤}
+use Rattle.std.proofs.Common.{◌≡◌, ◌≢◌, ℕ, zero, suc, ◌+◌, ◌<◌, ◌≤◌, Bool, true, false, cond, nat_lt, List, [], ◌∷◌, ◌++◌, length, Option, Some, None, is_some, refl, ap, ◌∙◌, sym, subst, arith, lit≤}
 use Rattle.std.proofs.Math.Seq.{append_snoc}
 use Rattle.std.proofs.lemmas.List.{append-nil}
-use Rattle.std.proofs.lemmas.Bool.{ltb-false, ltb-true, lt-ltb, le-ltb}
+use Rattle.std.proofs.lemmas.Bool.{ltb-true, lt-ltb, le-ltb}
 use Rattle.std.specs.Str.{bytes_eq}
 use Rattle.std.proofs.lemmas.Slice.Eq.{bytes_eq-Decides}
 use Rattle.desk_base.specs.declared.span.Span.{Span}
@@ -12,7 +12,6 @@ use Rattle.java_tree.specs.declared.token.Token.{Token}
 use Rattle.java_tree.specs.declared.token.Word.{Word}
 use Rattle.java_tree.specs.declared.expr.Expr.{Expr, out-Expr, roll-Expr}
 use Rattle.java_tree.specs.declared.expr.Expr.TheOpen.{Expr-F}
-use Rattle.java_tree.specs.declared.expr.Expr.TheViews.{roll-out-Expr}
 use Rattle.java_tree.specs.declared.expr.Expr.TheVariants as tree
 use Rattle.java_tree.specs.declared.expr.Expr.TheVariants.{rolls-Int, rolls-Str, rolls-True, rolls-False, rolls-Null, rolls-This, rolls-Name, rolls-Call, rolls-New, rolls-Paren, rolls-Select, rolls-CallOn, rolls-Not, rolls-Neg, rolls-Binary}
 use Rattle.java_tree.specs.declared.expr.BinaryOp.{BinaryOp}
@@ -20,13 +19,13 @@ use Rattle.java_tree.specs.declared.expr.BinaryOp.TheVariants as op
 use Rattle.java_expressions.specs.declared.tall.Tall.{Tall}
 use Rattle.java_expressions.specs.declared.tall.Listed.{Listed}
 use Rattle.java_expressions.specs.declared.tall.Arguments.{Arguments}
-use Rattle.java_expressions.specs.Phrase.{Phrase, ◌⨾◌, ◌⊢◌, ◌∣◌, Never, Mark, Sign, Spelled, Separated, Each, word_of}
-use Rattle.java_expressions.specs.Spelling.{sign_of, level_of, smallest_digits, thread_name, Smallest, Args, Layered, Spells}
-use Rattle.java_expressions.specs.Parser.{Outcome, Found, Lost, Parser, and_then, ◌>>=◌, pure, fail, same_kind, next_kind, sees, sign, word, turns_from, turns}
-use Rattle.java_expressions.specs.Reading.{tall, none, with_item, in_parentheses, small, class_name, one_more, some_items, items_by, arguments, named_by, named, created, parenthesized, primary_by, primary, selected_by, selection, post, inverted, smallest, negated_by, negated, unary_by, unary, operation, climb_by, climb, climbs, level, expr, next_operator, operator_by, operator, tight, sees_smallest}
-use Rattle.java_expressions.proofs.Phrases.{seen, sees-next, next-sign, next-mark, next-word, sign-complete, word-complete, sign-mark}
+use Rattle.java_expressions.specs.Phrase.{Phrase, ◌⨾◌, Mark, Sign, Spelled, Separated, Each}
+use Rattle.java_expressions.specs.Spelling.{sign_of, level_of, smallest_digits, thread_name, Args, Layered, Spells}
+use Rattle.java_expressions.specs.Parser.{Outcome, Found, Parser, ◌>>=◌, pure, same_kind, next_kind, sees, sign, turns_from, turns}
+use Rattle.java_expressions.specs.Reading.{tall, none, with_item, small, class_name, one_more, some_items, items_by, arguments, named, created, parenthesized, primary_by, primary, climbs, next_operator, operator_by, operator, tight, sees_smallest}
+use Rattle.java_expressions.proofs.Phrases.{sees-next, next-sign, next-mark, next-word, sign-complete, word-complete, sign-mark}
 use Rattle.java_expressions.proofs.Loops.{turn_once, turn_ends}
-use Rattle.java_expressions.proofs.Sound.{Reading-sound, sign-shorter, word-shorter, next-level, arguments-sound}
+use Rattle.java_expressions.proofs.Sound.{Reading-sound, sign-shorter, next-level}
 
 -- ---- what stands next
 

@@ -1,5 +1,5 @@
 -- A loop over the tokens ahead beside its count of turns.
-use Rattle.std.proofs.Common.{◌≡◌, ℕ, zero, suc, ◌<◌, Bool, true, false, List, length, refl, ap, ◌∙◌, sym, arith}
+use Rattle.std.proofs.Common.{◌≡◌, ℕ, zero, suc, ◌<◌, Bool, true, false, List, length, refl, ◌∙◌, sym, arith}
 use Rattle.java_tree.specs.declared.token.Token.{Token}
 use Rattle.java_expressions.specs.Parser.{Found, Lost, Parser, turns_from, turns}
 

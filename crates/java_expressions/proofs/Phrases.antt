@@ -1,13 +1,13 @@
 -- Laws of phrases and parsers of one token, of their sequences, and of the tokens that they take.
-use Rattle.std.proofs.Common.{◌≡◌, ◌≢◌, ℕ, suc, ◌+◌, ◌-◌, ◌<◌, ◌≤◌, Bool, true, false, cond, List, [], ◌∷◌, ◌++◌, length, take, Option, Some, None, refl, ap, ◌∙◌, sym, subst, arith, rules, append_assoc, length-append}
+use Rattle.std.proofs.Common.{◌≡◌, suc, ◌<◌, ◌≤◌, Bool, true, false, cond, List, [], ◌∷◌, ◌++◌, length, Option, Some, None, refl, ap, ◌∙◌, sym, subst, arith, rules, append_assoc, length-append}
 use denote.Enum.Bare.{same_true, true_same}
 use Rattle.desk_base.specs.declared.span.Span.{Span}
 use Rattle.java_tree.specs.contracts.kind.Kind.{the_type}
 use Rattle.java_tree.specs.declared.kind.Kind.{Kind}
 use Rattle.java_tree.specs.declared.token.Token.{Token}
 use Rattle.java_tree.specs.declared.token.Word.{Word}
-use Rattle.java_expressions.specs.Phrase.{Phrase, Nothing, ◌⨾◌, Mark, Sign, Spelled, word_of}
-use Rattle.java_expressions.specs.Parser.{Outcome, Found, Lost, Parser, and_then, pure, same_kind, next_kind, sees, sign, word}
+use Rattle.java_expressions.specs.Phrase.{Phrase, Nothing, Mark, Sign, Spelled, word_of}
+use Rattle.java_expressions.specs.Parser.{Outcome, Found, Lost, Parser, and_then, same_kind, next_kind, sees, sign, word}
 
 pub and_then-some : {A B : Type 0} (o : Outcome A) (f : A → Parser B) (y : B) (rest : List Token) → and_then o f ≡ Found y rest
     → (x : A) × (mid : List Token) × (o ≡ Found x mid) × (f x mid ≡ Found y rest)

@@ -1,5 +1,5 @@
 -- The two laws of the reader over tokens, as its functions need them.
-use Rattle.std.proofs.Common.{◌≡◌, ◌≢◌, ℕ, Bool, true, false, List, [], ◌∷◌, Option, Some, None, Result, Ok, Err, IfOk, IfErr, IsFalse, refl, ap, ◌∙◌, sym, subst, lit≤}
+use Rattle.std.proofs.Common.{◌≡◌, ◌≢◌, ℕ, Bool, true, false, List, [], ◌∷◌, None, Result, Ok, Err, IfOk, refl, ap, ◌∙◌, sym, subst, lit≤}
 use Rattle.std.proofs.Math.Nat.{le_refl}
 use Rattle.java_tree.specs.declared.kind.Kind.{Kind}
 use Rattle.java_tree.specs.declared.kind.Kind.TheVariants as k
@@ -13,8 +13,8 @@ use Rattle.java_expressions.specs.Spelling.{Spells, Ends, goes_on_with}
 use Rattle.java_expressions.specs.Cursor.{Steps, ahead}
 use Rattle.java_expressions.specs.Answers.{Gives}
 use Rattle.java_expressions.specs.Parser.{Outcome, Found, Lost, Parser, same_kind, next_kind, sees}
-use Rattle.java_expressions.specs.Reading.{tall, ended, ended_by, expr, post_within, goes_on, operator, climbs, next_operator}
-use Rattle.java_expressions.proofs.Phrases.{and_then-some, pure-is}
+use Rattle.java_expressions.specs.Reading.{tall, ended, ended_by, expr, post_within, goes_on, operator, next_operator}
+use Rattle.java_expressions.proofs.Phrases.{and_then-some}
 use Rattle.java_expressions.proofs.Complete.{Closed, closed-by, Finds}
 use Rattle.java_expressions.proofs.Chains.{expr-complete, post_within-complete}
 use Rattle.java_expressions.proofs.Sound.{expr-sound, post_within-sound}

@@ -1,5 +1,5 @@
 -- What the reader finds, the tokens spell.
-use Rattle.std.proofs.Common.{◌≡◌, ◌≢◌, ◌⊎◌, ℕ, zero, suc, ◌+◌, ◌<◌, ◌≤◌, max, Bool, true, false, cond, nat_lt, ◌==◌, ◌&&◌, List, [], ◌∷◌, ◌++◌, length, Option, Some, None, is_some, codes, refl, ap, ◌∙◌, sym, subst, arith, rules, inl, inr, lit≤}
+use Rattle.std.proofs.Common.{◌≡◌, ◌≢◌, ℕ, zero, suc, ◌+◌, ◌<◌, ◌≤◌, max, Bool, true, false, cond, nat_lt, ◌==◌, ◌&&◌, List, [], ◌∷◌, ◌++◌, length, Option, Some, None, is_some, refl, ap, ◌∙◌, sym, subst, arith, inl, inr, lit≤}
 use Rattle.std.proofs.lemmas.Bool.{ltb-false, ltb-true}
 use Rattle.std.specs.Str.{bytes_eq}
 use Rattle.std.proofs.lemmas.Slice.Eq.{bytes_eq-Decides}
@@ -17,9 +17,9 @@ use Rattle.java_tree.specs.declared.expr.BinaryOp.TheVariants as op
 use Rattle.java_expressions.specs.declared.tall.Tall.{Tall}
 use Rattle.java_expressions.specs.declared.tall.Listed.{Listed}
 use Rattle.java_expressions.specs.declared.tall.Arguments.{Arguments}
-use Rattle.java_expressions.specs.Phrase.{Phrase, ◌⨾◌, ◌⊢◌, ◌∣◌, Never, Mark, Sign, Spelled, Separated, Each, word_of}
+use Rattle.java_expressions.specs.Phrase.{Phrase, ◌⨾◌, Mark, Sign, Spelled, Separated, Each}
 use Rattle.java_expressions.specs.Spelling.{sign_of, level_of, smallest_digits, thread_name, Smallest, Args, Layered, Spells}
-use Rattle.java_expressions.specs.Parser.{Outcome, Found, Lost, Parser, and_then, ◌>>=◌, pure, fail, same_kind, next_kind, sees, sign, word, turns_from, turns}
+use Rattle.java_expressions.specs.Parser.{Found, Parser, and_then, ◌>>=◌, pure, fail, same_kind, next_kind, sees, sign, word, turns_from, turns}
 use Rattle.java_expressions.specs.Reading.{tall, none, with_item, in_parentheses, call_tree, named_tree, new_tree, paren_tree, select_tree, call_on_tree, not_tree, neg_tree, smallest_tree, binary_tree, small, class_name, one_more, some_items, items_by, arguments, named_by, named, created, parenthesized, primary_by, primary, selected_by, selection, post, inverted, smallest, negated_by, negated, unary_by, unary, operation, climb_by, climb, climbs, level, expr, post_within, next_operator, operator_by, operator, tight, sees_smallest}
 use Rattle.java_expressions.proofs.Phrases.{and_then-some, pure-is, sign-sound, word-sound, mark-sign}
 

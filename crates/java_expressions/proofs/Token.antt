@@ -1,10 +1,9 @@
 -- One token is read, or another kind stands there.
-use Rattle.std.proofs.Common.{◌≡◌, ℕ, Bool, true, false, not, List, [], ◌∷◌, ◌++◌, refl, ap, ◌∙◌, sym}
+use Rattle.std.proofs.Common.{◌≡◌, ℕ, Bool, true, false, not, List, [], ◌∷◌, ◌++◌, refl}
 use Rattle.std.proofs.Math.Seq.{append_snoc}
 use Rattle.java_tree.specs.declared.kind.Kind.{Kind}
 use Rattle.java_tree.specs.declared.token.Token.{Token}
-use Rattle.java_expressions.specs.Phrase.{word_of}
-use Rattle.java_expressions.specs.Parser.{Outcome, Found, Lost, same_kind, sign, word}
+use Rattle.java_expressions.specs.Parser.{Found, Lost, same_kind, sign, word}
 
 pub off : (b c : Bool) → c ≡ not b → c ≡ true → b ≡ false
 off true c e f = cc

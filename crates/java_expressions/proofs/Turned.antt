@@ -1,5 +1,5 @@
 -- A list that is kept with its first element last.
-use Rattle.std.proofs.Common.{◌≡◌, ℕ, suc, ◌-◌, List, [], ◌∷◌, ◌++◌, length, reverse, Option, Some, None, refl, ap, ◌∙◌, sym, arith, append_assoc}
+use Rattle.std.proofs.Common.{◌≡◌, ◌-◌, List, [], ◌∷◌, ◌++◌, length, reverse, refl, ap, ◌∙◌, sym, arith, append_assoc}
 use Rattle.std.proofs.lemmas.List.{reverse-append, append-nil}
 use Rattle.std.specs.List.{slice_get}
 use Rattle.java_expressions.specs.Parser.{first}

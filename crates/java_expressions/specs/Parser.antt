@@ -1,5 +1,5 @@
 -- Parsers as functions on lists of tokens, and those of one token.
-use Rattle.std.specs.Prelude.{◌≡◌, ℕ, zero, suc, Bool, true, false, if◌then◌else◌, List, [], ◌∷◌, length, Option, Some, None}
+use Rattle.std.specs.Prelude.{ℕ, zero, suc, Bool, false, if◌then◌else◌, List, [], ◌∷◌, length, Option, Some, None}
 use Rattle.std.specs.Option.{option_map, option_map_or}
 use denote.Enum.Bare.{sameb}
 use Rattle.desk_base.specs.declared.span.Span.{Span}

@@ -5,7 +5,6 @@ use Rattle.desk_base.specs.declared.span.Span.{Span}
 use Rattle.java_tree.specs.declared.kind.Kind.{Kind}
 use Rattle.java_tree.specs.declared.kind.Kind.TheVariants as k
 use Rattle.java_tree.specs.declared.token.Token.{Token}
-use Rattle.java_tree.specs.declared.token.Word.{Word}
 use Rattle.java_tree.specs.declared.expr.Expr.{Expr, out-Expr}
 use Rattle.java_tree.specs.declared.expr.Expr.TheOpen.{Expr-F}
 use Rattle.java_tree.specs.declared.expr.BinaryOp.{BinaryOp}

@@ -1,4 +1,3 @@
-use Rattle.std.proofs.Common.{rules}
 use Rattle.java_expressions.proofs.ReaderLemmas.{found_expr, only_expr}
 use Rattle.java_expressions.proofs.reader.read_expr.Goals as goal
 

@@ -1,4 +1,3 @@
-use Rattle.std.proofs.Common.{rules}
 use Rattle.java_expressions.proofs.ReaderLemmas.{found_post, only_post}
 use Rattle.java_expressions.proofs.reader.read_post.Goals as goal
 

@@ -1,4 +1,4 @@
-use Rattle.std.proofs.Common.{rules, arith}
+use Rattle.std.proofs.Common.{arith}
 use Rattle.java_expressions.proofs.Heights.{low_args}
 use Rattle.java_expressions.proofs.grammar.Grammar.low_arguments.Goals as goal
 

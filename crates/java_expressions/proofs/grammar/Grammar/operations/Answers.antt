@@ -1,4 +1,4 @@
-use Rattle.std.proofs.Common.{◌≡◌, length, is_some, refl, ap, ◌∙◌, sym, rules, arith}
+use Rattle.std.proofs.Common.{◌≡◌, is_some, refl, ap, ◌∙◌, sym, rules}
 use Rattle.java_expressions.specs.Reading.{climbs, climb, operation, expr}
 use Rattle.java_expressions.specs.Parser.{Lost, turns}
 use Rattle.java_expressions.specs.Cursor.{ahead}

@@ -1,4 +1,4 @@
-use Rattle.std.proofs.Common.{◌≡◌, length, refl, ◌∙◌, sym, rules, arith}
+use Rattle.std.proofs.Common.{refl, ◌∙◌, sym, rules}
 use Rattle.java_tree.specs.declared.kind.Kind.TheVariants as k
 use Rattle.java_expressions.specs.Parser.{sees}
 use Rattle.java_expressions.specs.Reading.{selection, expr}
