@@ -1,0 +1,9 @@
+pub mod Turned
+pub mod Token
+pub mod Phrases
+pub mod Sound
+pub mod Loops
+pub mod Heights
+pub mod Complete
+pub mod Chains
+pub mod ReaderLemmas

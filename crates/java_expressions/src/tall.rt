@@ -1,0 +1,27 @@
+//! Trees beside the number of nodes on their longest path.
+
+use desk_base::Span;
+use java_tree::Expr;
+use sqlite_items::Items;
+
+/// An expression and its height: the number of nodes on its longest path.
+#[derive(Drop)]
+pub struct Tall {
+    pub(crate) expr: Expr,
+    pub(crate) height: usize,
+}
+
+/// Expressions of a list and the greatest of their heights.
+#[derive(Drop)]
+pub struct Listed {
+    pub(crate) items: Items<Expr>,
+    pub(crate) height: usize,
+}
+
+/// The same, in parentheses.
+#[derive(Drop)]
+pub struct Arguments {
+    pub(crate) items: Items<Expr>,
+    pub(crate) height: usize,
+    pub(crate) closing: Span,
+}
