@@ -5,3 +5,4 @@ pub mod Laws
 pub mod PathSet
 pub mod Entries
 pub mod Whole
+pub mod Taken

@@ -1,10 +1,10 @@
 -- A bundle has one reading, and no bytes are a bundle and at fault.
-use Rattle.std.proofs.Common.{◌≡◌, ◌≢◌, ℕ, List, [], ◌∷◌, ◌++◌, map, refl, ap, sym, ◌∙◌, subst, arith, append_assoc, append-nil, suc, Some, None}
+use Rattle.std.proofs.Common.{◌≡◌, ◌≢◌, ℕ, ◌+◌, ◌⊎◌, inl, inr, length, List, [], ◌∷◌, ◌++◌, map, refl, ap, sym, ◌∙◌, subst, arith, append_assoc, append-nil, suc, Some, None}
 use Rattle.std.specs.List.{All, AllPairs}
 use Rattle.std.proofs.lemmas.List.{map-append, get_or_append_left, length-append}
 use Rattle.bundle.specs.Entry.{Entry, IsEntry, entry_bytes}
 use Rattle.bundle.specs.Reading.{entry_at, stripped}
-use Rattle.bundle.specs.Bundle.{AreFiles, entries_bytes, end_line, IsBundle, Stops}
+use Rattle.bundle.specs.Bundle.{AreFiles, entries_bytes, end_line, IsBundle, Stops, BadAt, NoNewEntry, NoEnd}
 use Rattle.bundle.proofs.Fronts.{stripped_again}
 use Rattle.bundle.proofs.Laws.{entry_again, some_is}
 
@@ -14,16 +14,16 @@ record Continues (front all : List Entry) (rest : List ℕ) : Type 0 where
   files : all ≡ front ++ more
   left : rest ≡ entries_bytes more ++ end_line
 
-each_tail : (e : Entry) (es : List Entry) → All IsEntry (e ∷ es) → All IsEntry es
+pub each_tail : (e : Entry) (es : List Entry) → All IsEntry (e ∷ es) → All IsEntry es
 each_tail e es all k d low = all (suc k) d (omega arith)
 
-each_head : (e : Entry) (es : List Entry) → All IsEntry (e ∷ es) → IsEntry e
+pub each_head : (e : Entry) (es : List Entry) → All IsEntry (e ∷ es) → IsEntry e
 each_head e es all = all 0 e (omega arith)
 
 continue_by : (e : Entry) (front all : List Entry) (rest : List ℕ) → Continues front all rest → Continues (e ∷ front) (e ∷ all) rest
 continue_by e front all rest c = record { more = c.more; files = ap (λ l. e ∷ l) c.files; left = c.left }
 
-one_entry : (e f : Entry) (x y : List ℕ) → IsEntry e → IsEntry f → entry_bytes e ++ x ≡ entry_bytes f ++ y → (e ≡ f) × (x ≡ y)
+pub one_entry : (e f : Entry) (x y : List ℕ) → IsEntry e → IsEntry f → entry_bytes e ++ x ≡ entry_bytes f ++ y → (e ≡ f) × (x ≡ y)
 one_entry e f x y fits fits' same =
     let pair = some_is _ _ (sym (entry_again e x fits) ∙ ap entry_at same ∙ entry_again f y fits') in
     (ap (λ p. p.0) pair, ap (λ p. p.1) pair)
@@ -81,3 +81,24 @@ pub one_list : (bytes : List ℕ) (first second : List Entry) → IsBundle first
 one_list bytes first second one two =
     let c = continues first second end_line one.good.each two.good.each (sym one.whole ∙ two.whole) in
     sym (c.files ∙ ap (λ l. first ++ l) (ends_here c.more c.left) ∙ append-nil first)
+
+none_more : (more : List ℕ) (files : List Entry) (e : Entry) (rest : List ℕ) → end_line ++ more ≡ entry_bytes e ++ rest → ⊥
+none_more more files e rest same = cc
+
+-- no bytes with a place at fault are a bundle
+pub bad_no_bundle : (bytes : List ℕ) (at : ℕ) (files : List Entry) → BadAt bytes at → IsBundle files bytes → ⊥
+bad_no_bundle bytes at files bad is = bad_by bad.fault
+  where
+    stop_with : NoNewEntry bad.files bad.rest → Stops bytes bad.rest
+    stop_with none = record { files = bad.files; good = bad.good; split = bad.split; last = none }
+
+    bad_by : (NoNewEntry bad.files bad.rest × NoEnd bad.rest × (at ≡ length (entries_bytes bad.files)))
+        ⊎ ((more : List ℕ) × (more ≢ []) × (bad.rest ≡ end_line ++ more) × (at ≡ length (entries_bytes bad.files) + length end_line)) → ⊥
+    bad_by (inl (none, no-end, place)) = no-end [] (after_stop bytes bad.rest files (stop_with none) is ∙ sym (append-nil end_line))
+    bad_by (inr (more, some, split, place)) =
+        let rest = after_stop bytes bad.rest files (stop_with (λ e after whole good. none_more more files e after (sym split ∙ whole))) is in
+        some (ends_with more (sym split ∙ rest))
+      where
+        ends_with : (more : List ℕ) → end_line ++ more ≡ end_line → more ≡ []
+        ends_with [] e = refl
+        ends_with (b ∷ more) e = cc

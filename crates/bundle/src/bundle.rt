@@ -1,10 +1,11 @@
-ghost use Rattle.std.specs.Prelude.{◌≡◌, ◌||◌, not, ℕ, List, OnOk, IfOk, IfErr, IsOkUnless};
+ghost use Rattle.std.specs.Prelude.{◌≡◌, ◌||◌, not, ℕ, List, map, OnOk, IfOk, IfErr, IsOkUnless};
 ghost use Rattle.bundle.specs.Entry.{Entry};
 ghost use Rattle.bundle.specs.Bundle.{IsBundle, BadAt, Stops};
 ghost use Rattle.bundle.specs.Paths.{has_path, list_eq};
 ghost use Rattle.bundle.specs.Fault.{IsFaultOf};
+ghost use Rattle.bundle.specs.File.{file_of};
 
-use crate::entry::{next_entry, strip};
+use crate::entry::{FileEntry, next_entry, strip};
 use std::alloc::{AllocFailed, Global};
 use std::collections::BTreeSet;
 
@@ -69,6 +70,35 @@ pub fn check_bundle(alloc: Global, bytes: &[u8]) -> Result<(), BundleError>
         Some(more) => Err(BundleError::Bad {
             at: bytes.len() - more.len(),
         }),
+    }
+}
+
+// The files of a bundle, in its order.
+fn entries(alloc: Global, bytes: &[u8]) -> Result<Vec<FileEntry<'_>>, BundleError>
+    requires { (files : List Entry) × IsBundle files bytes.now }
+    ensures files { IfOk result (λ files. IsBundle (map file_of files.items) bytes.now) }
+    ensures err { IsOkUnless result BundleError.OutOfMemory }
+{
+    let mut files = Vec::new(alloc);
+    let mut rest = bytes;
+    while let Some((file, after)) = next_entry(rest) {
+        files.push(file)?;
+        rest = after;
+    }
+    Ok(files)
+}
+
+/// The files of a bundle, in its order and borrowed from its bytes. `Bad` comes exactly where the
+/// bytes are no bundle, with the first place at fault; it takes memory for the paths and for the
+/// list of files.
+pub fn read_bundle(alloc: Global, bytes: &[u8]) -> Result<Vec<FileEntry<'_>>, BundleError>
+    ensures files { IfOk result (λ files. IsBundle (map file_of files.items) bytes.now) }
+    ensures bad { IfErr result (IsFaultOf bytes.now) }
+    ensures only { (files : List Entry) → IsBundle files bytes.now → IsOkUnless result BundleError.OutOfMemory }
+{
+    match check_bundle(alloc, bytes) {
+        Ok(()) => entries(alloc, bytes),
+        Err(fault) => Err(fault),
     }
 }
 

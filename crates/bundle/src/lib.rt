@@ -7,7 +7,7 @@ mod entry;
 mod path;
 mod unique;
 
-pub use bundle::{BundleError, check_bundle};
+pub use bundle::{BundleError, check_bundle, read_bundle};
 pub use entry::{FileEntry, next_entry};
 pub use path::is_good_path;
 pub use unique::one_bundle;

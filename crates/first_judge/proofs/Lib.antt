@@ -2,3 +2,4 @@ pub mod Counted
 pub mod RowSteps
 pub mod NamesSeen
 pub mod Members
+pub mod PartSteps

@@ -1,5 +1,5 @@
 -- The names of a method's accesses are among the method's names.
-use Rattle.std.proofs.Common.{◌≡◌, ℕ, ◌+◌, List, [], ◌∷◌, ◌++◌, Some, None, sym, subst, map}
+use Rattle.std.proofs.Common.{◌≡◌, ℕ, ◌+◌, List, [], ◌∷◌, ◌++◌, Some, sym, subst}
 use Rattle.std.specs.List.{flat_map, All, AllByRecursion}
 use Rattle.std.specs.Str.{IsAscii}
 use Rattle.std.proofs.lemmas.List.Elements.{All-from_recursion}
@@ -18,7 +18,7 @@ use Rattle.java_tree.specs.declared.member.Method.{Method}
 use Rattle.java_tree.specs.declared.member.MemberTree.{MemberTree}
 use Rattle.java_tree.specs.Names.{names_of_expr, names_of_action, names_of_stmt, names_of_item, names_of_method, names_of_member}
 use Rattle.first_judge.specs.Accesses.{Access, name_of, value_reads, target_uses, action_uses, stmt_uses, item_uses, items_uses, method_uses, head_tokens}
-use Rattle.first_judge.specs.Seen.{seen, all_seen}
+use Rattle.first_judge.specs.Seen.{all_seen}
 use Rattle.first_judge.specs.declared.accesses.Access.{Access as Kept}
 
 abbrev pub Ascii : List (List ℕ) → Type 0

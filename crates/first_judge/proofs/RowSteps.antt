@@ -1,5 +1,5 @@
 -- One more finding of a unit: what has come and what is left.
-use Rattle.std.proofs.Common.{◌≡◌, ℕ, ◌+◌, ◌<◌, Bool, List, [], ◌∷◌, ◌++◌, length, take, drop, get_or, map, refl, ap, sym, ◌∙◌, append_assoc, add-one, subst}
+use Rattle.std.proofs.Common.{◌≡◌, ℕ, ◌+◌, ◌<◌, Bool, List, [], ◌∷◌, ◌++◌, length, take, drop, get_or, ap, sym, ◌∙◌, append_assoc, subst}
 use Rattle.std.proofs.lemmas.List.{take_more, drop_more, map-append}
 use Rattle.report.specs.declared.answers.FindingRow.{FindingRow}
 use Rattle.first_judge.specs.declared.accesses.Access.{Access as Kept}

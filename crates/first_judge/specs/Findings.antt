@@ -1,6 +1,6 @@
 -- The findings of one class whose only promise is a lock that is `this` over all of its fields.
-use Rattle.std.specs.Prelude.{◌≡◌, ℕ, ◌+◌, Bool, true, false, ◌==◌, not, List, [], ◌∷◌, ◌++◌, Option, Some, None, length, map, count_by, take, codes, decimal, if◌then◌else◌}
-use Rattle.std.specs.List.{list_any, flat_map, filter_map, find}
+use Rattle.std.specs.Prelude.{ℕ, ◌+◌, Bool, true, false, ◌==◌, not, List, [], ◌∷◌, ◌++◌, Option, Some, None, length, map, count_by, take, codes, decimal, if◌then◌else◌}
+use Rattle.std.specs.List.{list_any, flat_map, filter_map}
 use Rattle.std.specs.List.Sorted.{IsPermutation, IsSortedBy}
 use Rattle.std.specs.Ordering.{nat_cmp, is_lt}
 use Rattle.std.specs.Cmp.Lexicographic.{slice_cmp}
@@ -8,12 +8,9 @@ use Rattle.desk_base.specs.declared.key.PromiseName.TheVariants as kind
 use Rattle.desk_base.specs.declared.key.PromiseKey.{PromiseKey}
 use Rattle.result_records.specs.declared.code.FindingCode.{FindingCode}
 use Rattle.result_records.specs.declared.code.FindingCode.TheVariants as code
-use Rattle.result_records.specs.declared.finding.FindingKey.{FindingKey}
 use Rattle.result_records.specs.declared.finding.FindingLink.{FindingLink}
-use Rattle.result_records.specs.declared.finding.Finding.{Finding}
 use Rattle.report.specs.declared.answers.FindingRow.{FindingRow}
 use Rattle.report.specs.declared.answers.VerdictRow.{VerdictRow}
-use Rattle.report.specs.declared.answers.Answers.{Answers}
 use Rattle.report.specs.declared.verdict.Verdict.TheVariants as verdict
 use Rattle.java_tree.specs.declared.member.Method.{Method}
 use Rattle.java_tree.specs.declared.member.MemberTree.{MemberTree}
@@ -122,24 +119,3 @@ program_row = record { key = program_key; verdict = verdict.Firm; blame = None; 
 -- the findings of units, one unit after another
 abbrev pub rows_of : List UnitRows → List FindingRow
 rows_of units = flat_map (λ u. u.rows) units
-
--- the answers on a class, its units being in order; without the lock's annotation there is no promise
-abbrev pub answers_of : ClassTree → List UnitRows → Answers
-answers_of class units = record {
-  files = 1;
-  types = 1;
-  units = 1 + length class.members;
-  findings = if has_lock class then rows_of units else [];
-  verdicts = program_row ∷ (if has_lock class then lock_row class.name.name (find (λ r. r.fails) (rows_of units)) ∷ [] else []);
-}
-
--- The answers on one file with this path, text and class. No two methods have one key, so the order is
--- the only one.
-pub record AreAnswers (path text : List ℕ) (class : ClassTree) (answers : Answers) : Type 0 where
-  pub units : List UnitRows
-  pub order : InOrder (units_of path text class) units
-  pub is : answers ≡ answers_of class units
-
--- the answers on no file
-abbrev pub no_answers : Answers
-no_answers = record { files = 0; types = 0; units = 0; findings = []; verdicts = program_row ∷ [] }

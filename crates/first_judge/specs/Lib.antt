@@ -2,3 +2,5 @@ pub mod Accesses
 pub mod Findings
 pub mod Seen
 pub mod Numbers
+pub mod Project
+pub mod Parts

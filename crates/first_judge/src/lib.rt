@@ -1,13 +1,16 @@
-//! The judge of one class whose only promise is a lock: the lock is `this`, and guards all of its
-//! fields. It knows nothing of files and bundles, and nothing of any other promise.
+//! The judge of files with one class each, whose only promise is a lock: the lock is `this`, and guards
+//! all fields of the class. It knows nothing of bundles, and nothing of any other promise.
 #![tactic(auto)]
 
 mod accesses;
 mod judging;
 mod lines;
+mod project;
 mod rows;
+#[cfg(test)]
+mod tests;
 
 pub use accesses::Access;
-pub use judging::{judge, judge_nothing};
 pub use lines::LineCursor;
+pub use project::{ClassFile, judge_files};
 pub use rows::UnitRows;

@@ -17,12 +17,12 @@ use Rattle.java_tree.specs.declared.expr.Expr.TheVariants.{rolls-Int, rolls-Sele
 use Rattle.java_tree.specs.declared.expr.BinaryOp.{BinaryOp}
 use Rattle.java_expressions.specs.declared.tall.Tall.{Tall}
 use Rattle.java_expressions.specs.declared.tall.Arguments.{Arguments}
-use Rattle.java_expressions.specs.Phrase.{Mark, Sign, Spelled}
+use Rattle.java_phrases.specs.Phrase.{Mark, Sign, Spelled}
 use Rattle.java_expressions.specs.Spelling.{sign_of, level_of, smallest_digits, Smallest, Layered, Spells}
-use Rattle.java_expressions.specs.Parser.{Outcome, Found, Parser, next_kind, sees, word, turns_from, turns}
+use Rattle.java_phrases.specs.Parser.{Outcome, Found, Parser, next_kind, sees, sees_text, word, turns_from, turns}
 use Rattle.java_expressions.specs.Reading.{tall, binary_tree, selection, post, post_within, inverted, smallest, negated, unary_by, unary, operation, climb, climbs, level, expr, arguments, sees_smallest}
-use Rattle.java_expressions.proofs.Phrases.{next-sign, next-mark, sign-complete, word-complete, sign-mark}
-use Rattle.java_expressions.proofs.Loops.{turn_once, turn_ends}
+use Rattle.java_phrases.proofs.Phrases.{next-sign, next-mark, sign-complete, word-complete, sign-mark}
+use Rattle.java_phrases.proofs.Loops.{turn_once, turn_ends}
 use Rattle.java_expressions.proofs.Sound.{Reading-sound, sign-shorter, word-shorter, next-level, arguments-sound, expr-sound}
 use Rattle.java_expressions.proofs.Complete.{sees-kind, Closed, closed-operator, next_is, tighter, seven, spells-opens, is_unary, is_post, is_primary, leads, as_post, Finds, Reading-complete, Leads, same-tree, args-complete, primary-complete}
 
@@ -57,7 +57,7 @@ record IsSmallest (f : Expr-F Expr) (ts rest : List Token) : Type 0 where
   read : word k.IntLiteral ts ≡ Found word_is rest
 
 smallest-complete : (f : Expr-F Expr) (ts rest : List Token) → Smallest f ts rest → IsSmallest f ts rest
-unfolding sees_smallest
+unfolding sees_text
 smallest-complete (Expr-F.Int w) ts rest (big, (t, e, is, stands)) =
     let bytes : t.bytes ≡ smallest_digits = ap (λ (v : Word). v.name) stands ∙ big in
     let on : bytes_eq t.bytes smallest_digits ≡ true = (bytes_eq-Decides t.bytes smallest_digits).1 bytes in

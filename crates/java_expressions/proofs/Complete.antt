@@ -19,12 +19,12 @@ use Rattle.java_tree.specs.declared.expr.BinaryOp.TheVariants as op
 use Rattle.java_expressions.specs.declared.tall.Tall.{Tall}
 use Rattle.java_expressions.specs.declared.tall.Listed.{Listed}
 use Rattle.java_expressions.specs.declared.tall.Arguments.{Arguments}
-use Rattle.java_expressions.specs.Phrase.{Phrase, ◌⨾◌, Mark, Sign, Spelled, Separated, Each}
+use Rattle.java_phrases.specs.Phrase.{Phrase, ◌⨾◌, Mark, Sign, Spelled, Separated, Each}
 use Rattle.java_expressions.specs.Spelling.{sign_of, level_of, smallest_digits, thread_name, Args, Layered, Spells}
-use Rattle.java_expressions.specs.Parser.{Outcome, Found, Parser, ◌>>=◌, pure, same_kind, next_kind, sees, sign, turns_from, turns}
+use Rattle.java_phrases.specs.Parser.{Outcome, Found, Parser, ◌>>=◌, pure, same_kind, next_kind, sees, sees_text, sign, turns_from, turns}
 use Rattle.java_expressions.specs.Reading.{tall, none, with_item, small, class_name, one_more, some_items, items_by, arguments, named, created, parenthesized, primary_by, primary, climbs, next_operator, operator_by, operator, tight, sees_smallest}
-use Rattle.java_expressions.proofs.Phrases.{sees-next, next-sign, next-mark, next-word, sign-complete, word-complete, sign-mark}
-use Rattle.java_expressions.proofs.Loops.{turn_once, turn_ends}
+use Rattle.java_phrases.proofs.Phrases.{sees-next, next-sign, next-mark, next-word, sign-complete, word-complete, sign-mark}
+use Rattle.java_phrases.proofs.Loops.{turn_once, turn_ends}
 use Rattle.java_expressions.proofs.Sound.{Reading-sound, sign-shorter, next-level}
 
 -- ---- what stands next
@@ -145,7 +145,7 @@ abbrev pub Opens : List Token → Type 0
 Opens ts = (sees k.RParen ts ≡ false) × (sees_smallest ts ≡ false)
 
 no_number : (kind : Kind) (ts : List Token) → next_kind ts ≡ Some kind → same_kind kind k.IntLiteral ≡ false → sees_smallest ts ≡ false
-unfolding next_kind sees_smallest
+unfolding next_kind sees_text
 no_number kind [] e off = refl
 no_number kind (t ∷ ts) e off = let is : t.kind ≡ kind = cc in rw (is, off) refl
 
@@ -153,7 +153,7 @@ opens-kind : (kind : Kind) (ts : List Token) → next_kind ts ≡ Some kind → 
 opens-kind kind ts e a b = (sees-kind k.RParen kind ts e ∙ a, no_number kind ts e b)
 
 opens-int : (w : Word) (ts rest : List Token) → w.name ≢ smallest_digits → Spelled k.IntLiteral w ts rest → Opens ts
-unfolding sees_smallest
+unfolding sees_text
 opens-int w ts rest other (t, e, is, stands) =
     let bytes : t.bytes ≡ w.name = ap (λ (v : Word). v.name) stands in
     let P : List ℕ → Type 0 = λ l. bytes_eq l smallest_digits ≡ false in

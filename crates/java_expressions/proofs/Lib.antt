@@ -1,8 +1,4 @@
-pub mod Turned
-pub mod Token
-pub mod Phrases
 pub mod Sound
-pub mod Loops
 pub mod Heights
 pub mod Complete
 pub mod Chains

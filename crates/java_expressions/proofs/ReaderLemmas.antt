@@ -5,16 +5,16 @@ use Rattle.java_tree.specs.declared.kind.Kind.{Kind}
 use Rattle.java_tree.specs.declared.kind.Kind.TheVariants as k
 use Rattle.java_tree.specs.declared.token.Token.{Token}
 use Rattle.java_tree.specs.declared.expr.Expr.{Expr}
-use Rattle.java_expressions.specs.declared.error.SyntaxError.{SyntaxError}
-use Rattle.java_expressions.specs.declared.error.SyntaxError.TheVariants as error
-use Rattle.java_expressions.specs.declared.tokens.Tokens.{Tokens}
+use Rattle.java_phrases.specs.declared.error.SyntaxError.{SyntaxError}
+use Rattle.java_phrases.specs.declared.error.SyntaxError.TheVariants as error
+use Rattle.java_phrases.specs.declared.tokens.Tokens.{Tokens}
 use Rattle.java_expressions.specs.declared.tall.Tall.{Tall}
 use Rattle.java_expressions.specs.Spelling.{Spells, Ends, goes_on_with}
-use Rattle.java_expressions.specs.Cursor.{Steps, ahead}
+use Rattle.java_phrases.specs.Cursor.{Steps, ahead}
 use Rattle.java_expressions.specs.Answers.{Gives}
-use Rattle.java_expressions.specs.Parser.{Outcome, Found, Lost, Parser, same_kind, next_kind, sees}
+use Rattle.java_phrases.specs.Parser.{Outcome, Found, Lost, Parser, same_kind, next_kind, sees}
 use Rattle.java_expressions.specs.Reading.{tall, ended, ended_by, expr, post_within, goes_on, operator, next_operator}
-use Rattle.java_expressions.proofs.Phrases.{and_then-some}
+use Rattle.java_phrases.proofs.Phrases.{and_then-some}
 use Rattle.java_expressions.proofs.Complete.{Closed, closed-by, Finds}
 use Rattle.java_expressions.proofs.Chains.{expr-complete, post_within-complete}
 use Rattle.java_expressions.proofs.Sound.{expr-sound, post_within-sound}

@@ -17,11 +17,11 @@ use Rattle.java_tree.specs.declared.expr.BinaryOp.TheVariants as op
 use Rattle.java_expressions.specs.declared.tall.Tall.{Tall}
 use Rattle.java_expressions.specs.declared.tall.Listed.{Listed}
 use Rattle.java_expressions.specs.declared.tall.Arguments.{Arguments}
-use Rattle.java_expressions.specs.Phrase.{Phrase, ◌⨾◌, Mark, Sign, Spelled, Separated, Each}
+use Rattle.java_phrases.specs.Phrase.{Phrase, ◌⨾◌, Mark, Sign, Spelled, Separated, Each}
 use Rattle.java_expressions.specs.Spelling.{sign_of, level_of, smallest_digits, thread_name, Smallest, Args, Layered, Spells}
-use Rattle.java_expressions.specs.Parser.{Found, Parser, and_then, ◌>>=◌, pure, fail, same_kind, next_kind, sees, sign, word, turns_from, turns}
+use Rattle.java_phrases.specs.Parser.{Found, Parser, and_then, ◌>>=◌, pure, fail, same_kind, next_kind, sees, sees_text, sign, word, turns_from, turns}
 use Rattle.java_expressions.specs.Reading.{tall, none, with_item, in_parentheses, call_tree, named_tree, new_tree, paren_tree, select_tree, call_on_tree, not_tree, neg_tree, smallest_tree, binary_tree, small, class_name, one_more, some_items, items_by, arguments, named_by, named, created, parenthesized, primary_by, primary, selected_by, selection, post, inverted, smallest, negated_by, negated, unary_by, unary, operation, climb_by, climb, climbs, level, expr, post_within, next_operator, operator_by, operator, tight, sees_smallest}
-use Rattle.java_expressions.proofs.Phrases.{and_then-some, pure-is, sign-sound, word-sound, mark-sign}
+use Rattle.java_phrases.proofs.Phrases.{and_then-some, pure-is, sign-sound, word-sound, mark-sign}
 
 -- ---- tokens that were taken
 
@@ -444,7 +444,7 @@ module _ (room : ℕ) (inner : ℕ → Parser Tall) (known : Reading-sound room 
   both false b e = cc
 
   sees_smallest-sound : (ts rest : List Token) (w : Word) → sees_smallest ts ≡ true → Spelled k.IntLiteral w ts rest → w.name ≡ smallest_digits
-  unfolding sees_smallest
+  unfolding sees_text
   sees_smallest-sound [] rest w sees (t, e, is, stands) = cc
   sees_smallest-sound (t ∷ ts) rest w sees (t', e, is, stands) =
       let same : t ≡ t' = cc in

@@ -2,8 +2,8 @@
 use Rattle.std.specs.Prelude.{◌≡◌, List, Result, Ok, Err}
 use Rattle.java_tree.specs.declared.token.Token.{Token}
 use Rattle.java_tree.specs.declared.expr.Expr.{Expr}
-use Rattle.java_expressions.specs.declared.error.SyntaxError.{SyntaxError}
-use Rattle.java_expressions.specs.declared.error.SyntaxError.TheVariants as error
+use Rattle.java_phrases.specs.declared.error.SyntaxError.{SyntaxError}
+use Rattle.java_phrases.specs.declared.error.SyntaxError.TheVariants as error
 
 -- this expression with these tokens after it, unless memory ran out
 abbrev pub Gives : Result Expr SyntaxError → List Token → Expr → List Token → Type 0

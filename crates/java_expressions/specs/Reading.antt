@@ -1,7 +1,6 @@
 -- The reader as functions on lists of tokens: each says what the function of its name in the code
 -- answers. That this is the spelling, both ways, is what the public clauses say.
-use Rattle.std.specs.Prelude.{ℕ, zero, suc, ◌+◌, ◌==◌, max, nat_lt, ◌&&◌, Bool, true, false, if◌then◌else◌, List, [], ◌∷◌, ◌++◌, Option, Some, None, is_some}
-use Rattle.std.specs.Option.{option_map_or}
+use Rattle.std.specs.Prelude.{ℕ, zero, suc, ◌+◌, ◌==◌, max, nat_lt, Bool, true, false, if◌then◌else◌, List, [], ◌∷◌, ◌++◌, Option, Some, None, is_some}
 use Rattle.std.specs.Str.{bytes_eq}
 use Rattle.desk_base.specs.declared.span.Span.{Span}
 use Rattle.java_tree.specs.declared.kind.Kind.{Kind}
@@ -16,7 +15,7 @@ use Rattle.java_expressions.specs.declared.tall.Tall.{Tall}
 use Rattle.java_expressions.specs.declared.tall.Listed.{Listed}
 use Rattle.java_expressions.specs.declared.tall.Arguments.{Arguments}
 use Rattle.java_expressions.specs.Spelling.{sign_of, level_of, smallest_digits, thread_name, goes_on_with}
-use Rattle.java_expressions.specs.Parser.{Parser, Found, ◌>>=◌, ◌>>◌, pure, fail, same_kind, first, next_kind, peek, look, sees, sign, word, turns}
+use Rattle.java_phrases.specs.Parser.{Parser, Found, ◌>>=◌, ◌>>◌, pure, fail, next_kind, peek, look, sees, sees_text, sign, word, turns}
 
 -- ---- operators
 
@@ -60,8 +59,8 @@ unfoldable pub goes_on : List Token → Bool
 goes_on ts = goes_on_by (next_kind ts)
 
 -- whether the next token is the number that is written only behind a minus
-unfoldable pub sees_smallest : List Token → Bool
-sees_smallest ts = option_map_or (λ (t : Token). same_kind t.kind k.IntLiteral && bytes_eq t.bytes smallest_digits) (first ts) false
+abbrev pub sees_smallest : List Token → Bool
+sees_smallest = sees_text k.IntLiteral smallest_digits
 
 -- ---- trees with their heights
 

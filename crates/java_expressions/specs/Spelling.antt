@@ -9,7 +9,7 @@ use Rattle.java_tree.specs.declared.expr.Expr.{Expr, out-Expr}
 use Rattle.java_tree.specs.declared.expr.Expr.TheOpen.{Expr-F}
 use Rattle.java_tree.specs.declared.expr.BinaryOp.{BinaryOp}
 use Rattle.java_tree.specs.declared.expr.BinaryOp.TheVariants as op
-use Rattle.java_expressions.specs.Phrase.{Phrase, ◌⨾◌, ◌⊢◌, ◌∣◌, Never, Mark, Sign, Spelled, Separated}
+use Rattle.java_phrases.specs.Phrase.{Phrase, ◌⨾◌, ◌⊢◌, ◌∣◌, Never, Mark, Sign, Spelled, Separated}
 
 -- ---- operators
 

@@ -3,16 +3,15 @@
 
 ghost use Rattle.std.specs.Prelude.{◌≡◌, ◌≤◌, max, IfOk, IfErr};
 ghost use Rattle.java_tree.specs.declared.kind.Kind.TheVariants as k;
-ghost use Rattle.java_expressions.specs.Parser.{sees, turns};
+ghost use Rattle.java_phrases.specs.Parser.{sees, turns};
 ghost use Rattle.java_expressions.specs.Reading as spec;
-ghost use Rattle.java_expressions.specs.Cursor.{ahead, from_start, Steps};
+ghost use Rattle.java_phrases.specs.Cursor.{ahead, from_start, Steps};
 ghost use Rattle.java_expressions.specs.Nests.{Nests};
 
-use crate::error::SyntaxError;
 use crate::operators::{goes_on, level_of, next_operator, sign_of};
 use crate::tall::{Arguments, Listed, Tall};
-use crate::tokens::Tokens;
 use desk_base::Span;
+use java_phrases::{SyntaxError, Tokens};
 use java_tree::{BinaryOp, Expr, Kind, Word};
 use sqlite_items::{Boxed, Items};
 use std::alloc::Global;
@@ -374,7 +373,7 @@ impl<F: Fn(Global, &mut Tokens, u8, u8) -> Result<Tall, SyntaxError>> Grammar<F>
         ensures { Steps (spec.negated (spec.expr self.now.room) self.now.room) tokens.old result tokens.new }
     {
         let at = tokens.sign(Kind::Minus)?;
-        if tokens.sees_smallest() {
+        if tokens.sees_text(Kind::IntLiteral, b"2147483648".as_slice()) {
             return self.smallest(tokens, at);
         }
         let positive = self.inner(tokens, 7)?;
@@ -433,13 +432,9 @@ impl<F: Fn(Global, &mut Tokens, u8, u8) -> Result<Tall, SyntaxError>> Grammar<F>
     }
 }
 
-/// An expression of the level or a tighter one, with at most `limit` nodes on a path.
-pub(crate) fn expr(
-    alloc: Global,
-    tokens: &mut Tokens,
-    limit: u8,
-    least: u8,
-) -> Result<Tall, SyntaxError>
+/// An expression of the level or a tighter one, with at most `limit` nodes on a path, and its height.
+/// For readers that are proved against parsers.
+pub fn expr(alloc: Global, tokens: &mut Tokens, limit: u8, least: u8) -> Result<Tall, SyntaxError>
     ensures { Steps (spec.expr limit least) tokens.old result tokens.new }
 {
     if limit == 0 {
@@ -453,12 +448,9 @@ pub(crate) fn expr(
     .level(tokens, least)
 }
 
-/// An expression without an operator, with at most `limit` nodes on a path.
-pub(crate) fn post_within(
-    alloc: Global,
-    tokens: &mut Tokens,
-    limit: u8,
-) -> Result<Tall, SyntaxError>
+/// An expression without an operator, with at most `limit` nodes on a path, and its height. For readers
+/// that are proved against parsers.
+pub fn post_within(alloc: Global, tokens: &mut Tokens, limit: u8) -> Result<Tall, SyntaxError>
     ensures { Steps (spec.post_within limit) tokens.old result tokens.new }
 {
     if limit == 0 {

@@ -1,8 +1,7 @@
-//! Reading the expressions of the Java subset: which tokens spell which expression, the reader for
-//! them, and the cursor over tokens. It knows nothing of statements or files, nor of names and types.
+//! Reading the expressions of the Java subset: which tokens spell which expression, and the reader for
+//! them. It knows nothing of statements or files, nor of names and types.
 #![tactic(auto)]
 
-mod error;
 mod grammar;
 mod laws;
 mod operators;
@@ -10,9 +9,8 @@ mod reader;
 mod tall;
 #[cfg(test)]
 mod tests;
-mod tokens;
 
-pub use error::SyntaxError;
+pub use grammar::{expr, post_within};
 pub use laws::one_expression;
 pub use reader::{read_expr, read_post};
-pub use tokens::Tokens;
+pub use tall::Tall;

@@ -3,9 +3,9 @@
 ghost use Rattle.std.specs.Prelude.{◌≡◌, ◌≤◌};
 ghost use Rattle.java_expressions.specs.Spelling as spelling;
 ghost use Rattle.java_expressions.specs.Reading as spec;
-ghost use Rattle.java_expressions.specs.Cursor.{ahead};
+ghost use Rattle.java_phrases.specs.Cursor.{ahead};
 
-use crate::tokens::Tokens;
+use java_phrases::Tokens;
 use java_tree::{BinaryOp, Kind};
 
 pub(crate) fn sign_of(operator: BinaryOp) -> Kind

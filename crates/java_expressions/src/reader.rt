@@ -2,12 +2,11 @@ ghost use Rattle.std.specs.Prelude.{◌≡◌, List, IfOk, OnOk};
 ghost use Rattle.java_tree.specs.declared.token.Token.{Token};
 ghost use Rattle.java_tree.specs.declared.expr.Expr.{Expr};
 ghost use Rattle.java_expressions.specs.Spelling.{ExprSpells, PostSpells, Ends};
-ghost use Rattle.java_expressions.specs.Cursor.{ahead, from_start};
+ghost use Rattle.java_phrases.specs.Cursor.{ahead, from_start};
 ghost use Rattle.java_expressions.specs.Answers.{Gives};
 
-use crate::error::SyntaxError;
 use crate::grammar::{ended_expr, ended_post};
-use crate::tokens::Tokens;
+use java_phrases::{SyntaxError, Tokens};
 use java_tree::Expr;
 use std::alloc::Global;
 

@@ -7,8 +7,8 @@ use sqlite_items::Items;
 /// An expression and its height: the number of nodes on its longest path.
 #[derive(Drop)]
 pub struct Tall {
-    pub(crate) expr: Expr,
-    pub(crate) height: usize,
+    pub expr: Expr,
+    pub height: usize,
 }
 
 /// Expressions of a list and the greatest of their heights.

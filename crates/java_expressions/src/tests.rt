@@ -1,5 +1,6 @@
-use crate::{SyntaxError, Tokens, one_expression, read_expr, read_post};
+use crate::{one_expression, read_expr, read_post};
 use java_lexer::lex;
+use java_phrases::{SyntaxError, Tokens};
 use java_tree::{BinaryOp, Expr, Word};
 use std::test::Fail;
 

@@ -1,29 +1,24 @@
 -- What a check of some bytes answers.
-use Rattle.std.specs.Prelude.{◌≡◌, ◌⊎◌, ℕ, ◌<◌, ◌≤◌, Bool, true, false, List, [], ◌∷◌, length}
+use Rattle.std.specs.Prelude.{◌≡◌, ◌⊎◌, ℕ, ◌<◌, ◌≤◌, Bool, true, false, List, Option, Some, None, length}
 use Rattle.std.specs.List.{list_any}
+use Rattle.desk_base.specs.declared.limit.LimitName.{LimitName}
+use Rattle.desk_base.specs.declared.limit.LimitName.TheVariants as limit
 use Rattle.bundle.specs.Entry.{Entry}
-use Rattle.bundle.specs.Bundle.{IsBundle}
-use Rattle.java_tree.specs.declared.file.FileTree.{FileTree}
-use Rattle.java_tree.specs.declared.file.ClassTree.{ClassTree}
-use Rattle.java_reader.specs.Reads.{ReadsAs}
+use Rattle.bundle.specs.Bundle.{IsBundle, BadAt}
 use Rattle.report.specs.declared.answers.Answers.{Answers}
 use Rattle.report.specs.declared.verdict.Verdict.TheVariants as verdict
 use Rattle.report.specs.Report.{report_bytes, same_verdict}
-use Rattle.first_judge.specs.Findings.{AreAnswers, no_answers}
+use Rattle.first_project.specs.Limits.{passed_limit}
+use Rattle.first_project.specs.Files.{FirstUnread}
+use Rattle.first_project.specs.Answers.{AnswersOn, IsRepeated}
 use Rattle.promise_desk.specs.Intake.{most_bytes}
 use Rattle.promise_desk.specs.declared.status.Status.{Status}
 use Rattle.promise_desk.specs.declared.status.Status.TheVariants as status
-use Rattle.promise_desk.specs.Status.{fixed_line, unreadable_line}
+use Rattle.promise_desk.specs.Status.{bad_bundle_line, unreadable_line, duplicate_line, limit_line}
 
 -- some verdict, that on `Program` among them, is inconsistent
 abbrev pub is_inconsistent : Answers → Bool
 is_inconsistent answers = list_any (λ row. same_verdict row.verdict verdict.Inconsistent) answers.verdicts
-
--- the answers on the files of a bundle, of which there is at most one, read and of the form
-abbrev pub AnswersOn : List Entry → Answers → Type 0
-AnswersOn [] answers = answers ≡ no_answers
-AnswersOn (e ∷ []) answers = (tree : FileTree) × (class : ClassTree) × ReadsAs e.text tree × (tree.types ≡ class ∷ []) × AreAnswers e.path e.text class answers
-AnswersOn (e ∷ f ∷ files) answers = ⊥
 
 -- the bytes are a bundle of these files, and no more bytes than are taken
 pub record IsTaken (files : List Entry) (bytes : List ℕ) : Type 0 where
@@ -36,32 +31,37 @@ pub record AnswersOf (bytes : List ℕ) (answers : Answers) : Type 0 where
   pub taken : IsTaken files bytes
   pub answered : AnswersOn files answers
 
--- no file of the form has this text
-abbrev pub IsUnread : List ℕ → Type 0
-IsUnread text = (tree : FileTree) → ReadsAs text tree → ⊥
-
-abbrev pub IsRead : List ℕ → Type 0
-IsRead text = (tree : FileTree) × ReadsAs text tree
-
--- the path of the first entry that isn't the bundle's first or isn't of the form
-abbrev pub FirstUnread : List Entry → List ℕ → Type 0
-FirstUnread [] path = ⊥
-FirstUnread (e ∷ []) path = IsUnread e.text × (path ≡ e.path)
-FirstUnread (e ∷ f ∷ files) path = (IsUnread e.text × (path ≡ e.path)) ⊎ (IsRead e.text × (path ≡ f.path))
-
-pub record UnreadOf (bytes : List ℕ) (path : List ℕ) : Type 0 where
+-- the bytes are a bundle within the limits, and this is the path of the first file, in order of paths,
+-- that isn't of the form
+pub record UnreadOf (bytes path : List ℕ) : Type 0 where
   pub files : List Entry
   pub taken : IsTaken files bytes
+  pub within : passed_limit files ≡ None
   pub first : FirstUnread files path
 
--- more bytes than are taken, or no bundle of any files
-abbrev pub IsNoBundle : List ℕ → Type 0
-IsNoBundle bytes = (most_bytes < length bytes) ⊎ ((files : List Entry) → IsBundle files bytes → ⊥)
+-- the bytes are a bundle of files of the form, and this is the first type whose name is used before
+pub record RepeatOf (bytes name first second : List ℕ) : Type 0 where
+  pub files : List Entry
+  pub taken : IsTaken files bytes
+  pub repeat : IsRepeated files name first second
+
+-- the bytes are not too many, and the first place at which they are no bundle
+pub record BadOf (bytes : List ℕ) (at : ℕ) : Type 0 where
+  pub few : length bytes ≤ most_bytes
+  pub bad : BadAt bytes at
+
+-- there are more bytes than are taken, or they are a bundle whose files pass this limit first
+abbrev pub PassedOf : List ℕ → LimitName → Type 0
+PassedOf bytes which =
+    ((which ≡ limit.BundleBytes) × (most_bytes < length bytes))
+    ⊎ ((files : List Entry) × IsTaken files bytes × (passed_limit files ≡ Some which))
 
 -- what a check of the bytes ends with and writes, want of memory aside
 abbrev pub Checks : List ℕ → Status → List ℕ → Type 0
 Checks bytes status.Consistent text = (answers : Answers) × AnswersOf bytes answers × (is_inconsistent answers ≡ false) × (text ≡ report_bytes answers)
 Checks bytes status.Inconsistent text = (answers : Answers) × AnswersOf bytes answers × (is_inconsistent answers ≡ true) × (text ≡ report_bytes answers)
-Checks bytes status.BadBundle text = IsNoBundle bytes × (text ≡ fixed_line status.BadBundle)
+Checks bytes status.BadBundle text = (at : ℕ) × BadOf bytes at × (text ≡ bad_bundle_line at)
 Checks bytes status.Unreadable text = (path : List ℕ) × UnreadOf bytes path × (text ≡ unreadable_line path)
+Checks bytes status.DuplicateType text = (name : List ℕ) × (first : List ℕ) × (second : List ℕ) × RepeatOf bytes name first second × (text ≡ duplicate_line name first second)
+Checks bytes status.Limit text = (which : LimitName) × PassedOf bytes which × (text ≡ limit_line which)
 Checks bytes other text = ⊥

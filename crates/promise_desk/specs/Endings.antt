@@ -6,7 +6,7 @@ use Rattle.promise_desk.specs.declared.check.Text.TheVariants.{Fixed, Made}
 use Rattle.promise_desk.specs.declared.check.Ending.{Ending}
 use Rattle.promise_desk.specs.declared.status.Status.{Status}
 use Rattle.promise_desk.specs.declared.status.Status.TheVariants as status
-use Rattle.promise_desk.specs.Check.{Checks, IsNoBundle, is_inconsistent}
+use Rattle.promise_desk.specs.Check.{Checks, is_inconsistent}
 use Rattle.promise_desk.specs.Status.{fixed_line}
 
 -- the text's bytes
@@ -32,13 +32,13 @@ IsReport status.Inconsistent = Unit {0}
 IsReport other = ⊥
 
 -- How the reading and judging of an input ends: from what was left of it before and after, and
--- whether its count of faults rose. At a report all of the input was read.
+-- whether its count of faults rose. But where there is too much of it, all of the input was read.
 abbrev pub CheckEnds : Option (List ℕ) → Option (List ℕ) → Type 0 → Status → List ℕ → Type 0
 CheckEnds left after rose status.Usage text = ⊥
 CheckEnds left after rose status.OutputFault text = ⊥
 CheckEnds left after rose status.InputFault text = rose × (text ≡ fixed_line status.InputFault)
 CheckEnds left after rose status.Memory text = text ≡ fixed_line status.Memory
-CheckEnds left after rose status.BadBundle text = (text ≡ fixed_line status.BadBundle) × IfSome left IsNoBundle
+CheckEnds left after rose status.Limit text = IfSome left (λ bytes. Checks bytes status.Limit text)
 CheckEnds left after rose other text = IfSome left (λ bytes. Checks bytes other text × (after ≡ Some []))
 
 -- how a run ends but for the writing: the words decide first

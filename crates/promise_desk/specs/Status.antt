@@ -1,5 +1,7 @@
 -- The exit statuses and the lines that go with them.
-use Rattle.std.specs.Prelude.{ℕ, List, [], ◌++◌, codes}
+use Rattle.std.specs.Prelude.{ℕ, List, [], ◌++◌, codes, decimal}
+use Rattle.desk_base.specs.Limit.{limit_text, limit_max}
+use Rattle.desk_base.specs.declared.limit.LimitName.{LimitName}
 use Rattle.promise_desk.specs.declared.status.Status.{Status}
 use Rattle.promise_desk.specs.declared.status.Status.TheVariants as status
 
@@ -11,16 +13,29 @@ code_of status.InputFault = 3
 code_of status.OutputFault = 4
 code_of status.BadBundle = 6
 code_of status.Unreadable = 7
+code_of status.DuplicateType = 8
+code_of status.Limit = 9
 code_of status.Memory = 11
 
 -- the line of a status, where it is always the same
 abbrev pub fixed_line : Status → List ℕ
 fixed_line status.Usage = codes "usage: promise_desk check | script DB | serve DB PORT COUNT | sample N\n"
 fixed_line status.InputFault = codes "input fault\n"
-fixed_line status.BadBundle = codes "bad bundle\n"
 fixed_line status.Memory = codes "memory\n"
 fixed_line other = []
 
 -- the line that names a file which isn't of the form
 abbrev pub unreadable_line : List ℕ → List ℕ
 unreadable_line path = codes "unreadable " ++ path ++ codes " form at 0\n"
+
+-- the line that names the place at which bytes stop being a bundle
+abbrev pub bad_bundle_line : ℕ → List ℕ
+bad_bundle_line at = codes "bad bundle at " ++ decimal at ++ codes "\n"
+
+-- the line of a type whose name is used before: the name, the first file with it, and its own
+abbrev pub duplicate_line : List ℕ → List ℕ → List ℕ → List ℕ
+duplicate_line name first second = codes "type " ++ name ++ codes " in " ++ first ++ codes " and " ++ second ++ codes "\n"
+
+-- the line of a limit that is passed: its name and the greatest number that is allowed
+abbrev pub limit_line : LimitName → List ℕ
+limit_line which = codes "limit " ++ limit_text which ++ codes " " ++ decimal (limit_max which) ++ codes "\n"

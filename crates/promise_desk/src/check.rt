@@ -1,22 +1,16 @@
-ghost use Rattle.std.specs.Prelude.{◌≡◌, ◌≤◌, ◌∷◌, [], List, length, IfOk};
+ghost use Rattle.std.specs.Prelude.{◌≡◌, ◌≤◌, length, IfOk};
 ghost use Rattle.promise_desk.specs.Intake.{most_bytes};
-ghost use Rattle.bundle.specs.Entry.{Entry};
-ghost use Rattle.java_reader.specs.Reads.{ReadsAs};
-ghost use Rattle.report.specs.declared.answers.Answers.{Answers as Results};
-ghost use Rattle.promise_desk.specs.Check.{AnswersOn, IsTaken, is_inconsistent};
-ghost use Rattle.bundle.specs.File.{file_of};
-ghost use Rattle.promise_desk.specs.Status.{unreadable_line};
+ghost use Rattle.promise_desk.specs.Check.{is_inconsistent};
+ghost use Rattle.promise_desk.specs.Status.{bad_bundle_line, unreadable_line, duplicate_line, limit_line};
 ghost use Rattle.report.specs.Report.{report_bytes};
 ghost use Rattle.promise_desk.specs.Endings.{EndsAs, text_of, status_of};
 
 use crate::status::Status;
-use bundle::{BundleError, FileEntry, check_bundle, next_entry};
-use desk_base::{Bytes, OutOfMemory};
-use first_judge::{judge, judge_nothing};
-use java_lexer::tokens_spelled;
-use java_reader::{ReadError, read_file};
-use java_tree::FileTree;
+use bundle::{BundleError, read_bundle};
+use desk_base::{Bytes, LimitName, Name, OutOfMemory};
+use first_project::{ProjectError, judge_project};
 use report::{Answers, Verdict, report_text};
+use result_records::Put;
 use std::alloc::Global;
 
 /// How a run ends, and the text that it writes.
@@ -67,6 +61,19 @@ fn report(alloc: Global, answers: &Answers) -> Result<Ending, OutOfMemory>
     Ok(Ending { status, text })
 }
 
+// The line that names the place at which bytes stop being a bundle.
+fn bad_bundle(alloc: Global, at: usize) -> Result<Ending, OutOfMemory>
+    ensures { IfOk result (λ ending. (ending.status ≡ Status.BadBundle) × (text_of ending.text ≡ bad_bundle_line at)) }
+{
+    let mut line = Bytes::from_slice(alloc, b"bad bundle at ")?;
+    line.put_number(at as u64)?;
+    line.append(b"\n")?;
+    Ok(Ending {
+        status: Status::BadBundle,
+        text: Text::Made(line),
+    })
+}
+
 // The line that names a file which isn't of the form.
 fn unreadable(alloc: Global, path: &[u8]) -> Result<Ending, OutOfMemory>
     ensures { IfOk result (λ ending. (ending.status ≡ Status.Unreadable) × (text_of ending.text ≡ unreadable_line path.now)) }
@@ -80,38 +87,36 @@ fn unreadable(alloc: Global, path: &[u8]) -> Result<Ending, OutOfMemory>
     })
 }
 
-// The report of one file that was read.
-fn judge_tree(alloc: Global, file: FileEntry<'_>, tree: &FileTree) -> Result<Ending, OutOfMemory>
-    requires { ReadsAs file.text.now tree.now }
-    ensures { IfOk result (λ ending. (answers : Results) × AnswersOn (file_of file.entry ∷ []) answers × (ending.status ≡ status_of answers) × (text_of ending.text ≡ report_bytes answers)) }
+// The line of a type whose name is used before.
+fn duplicate(alloc: Global, name: &[u8], first: &[u8], second: &[u8]) -> Result<Ending, OutOfMemory>
+    ensures { IfOk result (λ ending. (ending.status ≡ Status.DuplicateType) × (text_of ending.text ≡ duplicate_line name.now first.now second.now)) }
 {
-    tokens_spelled();
-    match tree.types.as_slice() {
-        [class] => {
-            let answers = judge(alloc, file.path, file.text, class)?;
-            report(alloc, &answers)
-        }
-        _ => unreachable!(),
-    }
+    let mut line = Bytes::from_slice(alloc, b"type ")?;
+    line.append(name)?;
+    line.append(b" in ")?;
+    line.append(first)?;
+    line.append(b" and ")?;
+    line.append(second)?;
+    line.append(b"\n")?;
+    Ok(Ending {
+        status: Status::DuplicateType,
+        text: Text::Made(line),
+    })
 }
 
-// Judges the files of a bundle, of which there is at most one where a report is made.
-fn judge_entries(alloc: Global, bytes: &[u8]) -> Result<Ending, OutOfMemory>
-    requires { (files : List Entry) × IsTaken files bytes.now }
-    ensures { IfOk result (EndsAs bytes.now) }
+/// The line of a limit that is passed.
+pub fn past_limit(alloc: Global, which: LimitName) -> Result<Ending, OutOfMemory>
+    ensures { IfOk result (λ ending. (ending.status ≡ Status.Limit) × (text_of ending.text ≡ limit_line which)) }
 {
-    let Some((file, rest)) = next_entry(bytes) else {
-        return report(alloc, &judge_nothing(alloc)?);
-    };
-    let tree = match read_file(alloc, file.text) {
-        Ok(tree) => tree,
-        Err(ReadError::Form) => return unreadable(alloc, file.path),
-        Err(ReadError::OutOfMemory) => return Err(OutOfMemory),
-    };
-    if let Some((second, _)) = next_entry(rest) {
-        return unreadable(alloc, second.path);
-    }
-    judge_tree(alloc, file, &tree)
+    let mut line = Bytes::from_slice(alloc, b"limit ")?;
+    line.append(which.text())?;
+    line.append(b" ")?;
+    line.put_number(which.max())?;
+    line.append(b"\n")?;
+    Ok(Ending {
+        status: Status::Limit,
+        text: Text::Made(line),
+    })
 }
 
 /// Judges the bundle that the bytes are, and makes the report or the line of what they are instead.
@@ -119,12 +124,21 @@ pub fn judge_bundle(alloc: Global, bytes: &[u8]) -> Result<Ending, OutOfMemory>
     requires { length bytes.now ≤ most_bytes }
     ensures { IfOk result (EndsAs bytes.now) }
 {
-    match check_bundle(alloc, bytes) {
-        Ok(()) => judge_entries(alloc, bytes),
-        Err(BundleError::Bad { .. }) => Ok(Ending {
-            status: Status::BadBundle,
-            text: Text::Fixed(Status::BadBundle.line()),
-        }),
-        Err(BundleError::OutOfMemory) => Err(OutOfMemory),
+    let files = match read_bundle(alloc, bytes) {
+        Ok(files) => files,
+        Err(BundleError::Bad { at }) => return bad_bundle(alloc, at),
+        Err(BundleError::OutOfMemory) => return Err(OutOfMemory),
+    };
+    match judge_project(alloc, files.as_slice()) {
+        Ok(answers) => report(alloc, &answers),
+        Err(ProjectError::Limit(which)) => past_limit(alloc, which),
+        Err(ProjectError::Unread(path)) => unreadable(alloc, path),
+        Err(ProjectError::Repeated(name, first, second)) => duplicate(
+            alloc,
+            name.as_slice(),
+            first.as_slice(),
+            second.as_slice(),
+        ),
+        Err(ProjectError::OutOfMemory) => Err(OutOfMemory),
     }
 }

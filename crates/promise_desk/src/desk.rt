@@ -9,13 +9,14 @@ ghost use Rattle.promise_desk.specs.Endings.{CheckEnds, RunEnds, IsReportOrMemor
 ghost use Rattle.promise_desk.specs.Intake.{Moved};
 ghost use Rattle.promise_desk.specs.Output.{Wrote, WroteFront};
 
-use crate::check::{Ending, Text, judge_bundle};
+use crate::check::{Ending, Text, judge_bundle, past_limit};
 use crate::intake::{IntakeError, read_all};
 use crate::output::write_all;
 use crate::status::Status;
 use crate::words::{Command, WordsError, read_words};
 use bundle::one_bundle;
-use desk_base::{Keeper, Sink, Source, Steps};
+use desk_base::{Keeper, LimitName, OutOfMemory, Sink, Source, Steps};
+use java_reader::one_tree;
 use std::alloc::Global;
 
 // The ending of a status whose line is always the same.
@@ -37,7 +38,10 @@ fn check<I: Source>(alloc: Global, input: &mut I) -> Ending
     match read_all(alloc, input) {
         Ok(bytes) => judge_bundle(alloc, bytes.as_slice()).unwrap_or(fixed(Status::Memory)),
         Err(IntakeError::Fault) => fixed(Status::InputFault),
-        Err(IntakeError::TooLong) => fixed(Status::BadBundle),
+        Err(IntakeError::TooLong) => match past_limit(alloc, LimitName::BundleBytes) {
+            Ok(ending) => ending,
+            Err(OutOfMemory) => fixed(Status::Memory),
+        },
         Err(IntakeError::OutOfMemory) => fixed(Status::Memory),
     }
 }
@@ -59,8 +63,8 @@ fn run<I: Source>(alloc: Global, words: &Vec<String>, input: &mut I) -> Ending
 ///
 /// 0 and 1: a bundle was read to the input's end and its report written, 1 where a verdict is
 /// inconsistent. 2: the words are no command. 3: a take failed. 4: a give failed. 6: the input is no
-/// bundle, or has more than 20,971,520 bytes. 7: a file isn't of the form, or isn't the first. 11:
-/// memory was wanting.
+/// bundle. 7: a file isn't of the form. 8: two types have one name. 9: a limit is passed. 11: memory was
+/// wanting.
 pub fn desk_main<I: Source, O: Sink, K: Keeper, L>(
     alloc: Global,
     words: &Vec<String>,
@@ -89,6 +93,7 @@ pub fn desk_main<I: Source, O: Sink, K: Keeper, L>(
     ensures steps { _steps.new ≡ _steps.old }
 {
     one_bundle();
+    one_tree();
     let ending = run(alloc, words, input);
     match write_all(out, ending.text.as_slice()) {
         Ok(()) => ending.status.code(),

@@ -18,6 +18,10 @@ pub enum Status {
     BadBundle,
     /// A file isn't of the form that is judged.
     Unreadable,
+    /// Two types have one name.
+    DuplicateType,
+    /// A limit is passed.
+    Limit,
     /// The allocator had no memory.
     Memory,
 }
@@ -35,6 +39,8 @@ impl Status {
             Status::OutputFault => 4,
             Status::BadBundle => 6,
             Status::Unreadable => 7,
+            Status::DuplicateType => 8,
+            Status::Limit => 9,
             Status::Memory => 11,
         }
     }
@@ -47,7 +53,6 @@ impl Status {
             Status::Usage =>
                 "usage: promise_desk check | script DB | serve DB PORT COUNT | sample N\n",
             Status::InputFault => "input fault\n",
-            Status::BadBundle => "bad bundle\n",
             Status::Memory => "memory\n",
             _ => "",
         }

@@ -1,7 +1,6 @@
 use Rattle.std.proofs.Common.{subst, sym, rules}
 use Rattle.std.specs.Str.{IsUtf8}
 use Rattle.std.proofs.lemmas.Str.{IsUtf8-from_ascii}
-use Rattle.std.proofs.lemmas.Grind.{common_steps}
 use Rattle.first_judge.proofs.rows.name_text.Goals as goal
 
 pub unwrap-text-requires : goal.unwrap-text-requires

@@ -1,7 +1,7 @@
 use Rattle.std.proofs.Common.{◌≡◌, length}
 use Rattle.java_expressions.specs.Reading.{climbs, climb, expr}
-use Rattle.java_expressions.specs.Cursor.{ahead, from_start}
-use Rattle.java_expressions.proofs.Loops.{Continues}
+use Rattle.java_phrases.specs.Cursor.{ahead, from_start}
+use Rattle.java_phrases.proofs.Loops.{Continues}
 use Rattle.java_expressions.proofs.grammar.Grammar.operations.Given as goal
 
 abbrev pub invariant-more : goal.invariant-more

@@ -1,9 +1,9 @@
 use Rattle.std.proofs.Common.{◌≡◌, length}
 use Rattle.java_tree.specs.declared.kind.Kind.TheVariants as k
-use Rattle.java_expressions.specs.Parser.{sees}
+use Rattle.java_phrases.specs.Parser.{sees}
 use Rattle.java_expressions.specs.Reading.{selection, expr}
-use Rattle.java_expressions.specs.Cursor.{ahead, from_start}
-use Rattle.java_expressions.proofs.Loops.{Continues}
+use Rattle.java_phrases.specs.Cursor.{ahead, from_start}
+use Rattle.java_phrases.proofs.Loops.{Continues}
 use Rattle.java_expressions.proofs.grammar.Grammar.selections.Given as goal
 
 abbrev pub invariant-more : goal.invariant-more

@@ -1,0 +1,12 @@
+pub mod Always
+pub mod Bares
+pub mod Carried
+pub mod Lists
+pub mod Plains
+pub mod Owners
+pub mod Marked
+pub mod Spines
+pub mod Waits
+pub mod Flows
+pub mod Shaping
+pub mod Others

@@ -1,0 +1,5 @@
+pub mod Bare
+pub mod Places
+pub mod Marks
+pub mod Waiting
+pub mod Shape

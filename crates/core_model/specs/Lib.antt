@@ -1,0 +1,15 @@
+pub mod Begin
+pub mod Calling
+pub mod Code
+pub mod CodeCoded
+pub mod CodeFalls
+pub mod CodeOf
+pub mod Filling
+pub mod Frames
+pub mod Monitors
+pub mod NextAccess
+pub mod Objects
+pub mod Operators
+pub mod Step
+pub mod Straight
+pub mod Units

@@ -1,0 +1,15 @@
+-- Files and parts as the code keeps them.
+use Rattle.std.specs.Prelude.{List, map}
+use Rattle.first_judge.specs.declared.project.ClassFile.{ClassFile}
+use Rattle.first_judge.specs.declared.project.ClassPart.{ClassPart}
+use Rattle.first_judge.specs.Project.{ClassText, Part}
+
+-- the file without where it lies in memory
+abbrev pub class_text : ClassFile → ClassText
+class_text f = record { path = f.path.now; text = f.text.now; class = f.class.now }
+
+abbrev pub class_texts : List ClassFile → List ClassText
+class_texts files = map class_text files
+
+abbrev pub part_seen : ClassPart → Part
+part_seen part = record { units = part.units.items; lock = part.lock }

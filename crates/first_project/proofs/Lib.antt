@@ -1,0 +1,4 @@
+pub mod Ascii
+pub mod ReadMore
+pub mod RepeatMore
+pub mod LimitMore

@@ -1,0 +1,11 @@
+pub mod Lists
+pub mod NameLaws
+pub mod AnnotationSound
+pub mod NestLoop
+pub mod AnnotationComplete
+pub mod ModifierLaws
+pub mod ParameterLaws
+pub mod MemberLaws
+pub mod LineLaws
+pub mod Parts
+pub mod ReaderLemmas

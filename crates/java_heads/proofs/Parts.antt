@@ -1,0 +1,94 @@
+-- A part of a file whose tree keeps its tokens.
+use Rattle.std.proofs.Common.{◌≡◌, ◌≢◌, List, [], ◌++◌, reverse, Result, Ok, Err, IfOk, refl, ap, ◌∙◌, sym, subst}
+use Rattle.std.proofs.lemmas.List.{append_cancel_right}
+use Rattle.java_tree.specs.declared.token.Token.{Token}
+use Rattle.java_phrases.specs.Phrase.{Phrase}
+use Rattle.java_phrases.specs.declared.error.SyntaxError.{SyntaxError}
+use Rattle.java_phrases.specs.declared.error.SyntaxError.TheVariants as error
+use Rattle.java_phrases.specs.declared.tokens.Tokens.{Tokens}
+use Rattle.java_phrases.specs.Cursor.{ahead, from_start, Steps}
+use Rattle.java_phrases.specs.Parser.{Found, Lost, Parser}
+use Rattle.java_heads.specs.Answers.{Gives, Takes}
+
+-- The phrase and its reader leave the tokens out.
+pub record IsPart {A : Type 0} (P : A → Phrase) (p : Parser A) (tokens_of : A → List Token) (with_tokens : List Token → A → A) : Type 0 where
+  pub sound : (ts rest : List Token) (x : A) → p ts ≡ Found x rest → P x ts rest
+  pub complete : (x : A) (ts rest : List Token) → P x ts rest → p ts ≡ Found (with_tokens [] x) rest
+  pub keeps : (l : List Token) (x : A) (ts rest : List Token) → P x ts rest → P (with_tokens l x) ts rest
+  pub has : (l : List Token) (x : A) → tokens_of (with_tokens l x) ≡ l
+  pub again : (l m : List Token) (x : A) → with_tokens l (with_tokens m x) ≡ with_tokens l x
+  pub own : (x : A) → with_tokens (tokens_of x) x ≡ x
+
+module _ {A : Type 0} (P : A → Phrase) (p : Parser A) (tokens_of : A → List Token) (with_tokens : List Token → A → A) (part : IsPart P p tokens_of with_tokens) where
+  pub part-found : (ts after taken : List Token) (x : A) → p ts ≡ Found x after → taken ++ after ≡ ts → P (with_tokens taken x) ts after × (ts ≡ tokens_of (with_tokens taken x) ++ after)
+  part-found ts after taken x e kept = (part.keeps taken x ts after (part.sound ts after x e), sym kept ∙ ap (λ l. l ++ after) (sym (part.has taken x)))
+
+  pub part-only : (ts after taken : List Token) (x : A) → p ts ≡ Found x after → taken ++ after ≡ ts → (y : A) (rest : List Token) → P y ts rest → ts ≡ tokens_of y ++ rest
+      → (with_tokens taken x ≡ y) × (after ≡ rest)
+  part-only ts after taken x e kept y rest s of_y =
+      let same : Found x after ≡ Found (with_tokens [] y) rest = sym e ∙ part.complete y ts rest s in
+      let tree : x ≡ with_tokens [] y = cc in
+      let ends : after ≡ rest = cc in
+      let tokens : taken ≡ tokens_of y = append_cancel_right taken (tokens_of y) rest (ap (λ l. taken ++ l) (sym ends) ∙ kept ∙ of_y) in
+      (ap (with_tokens taken) tree ∙ part.again taken [] y ∙ ap (λ l. with_tokens l y) tokens ∙ part.own y, ends)
+
+  pub part-lost : (ts : List Token) → p ts ≡ Lost → (y : A) (rest : List Token) → P y ts rest → ⊥
+  part-lost ts e y rest s = let same : Lost ≡ Found (with_tokens [] y) rest = sym e ∙ part.complete y ts rest s in cc
+
+-- ---- through the cursor
+
+pub ahead-same : (a b : Tokens) → a.stack ≡ b.stack → ahead a ≡ ahead b
+ahead-same a b same = ap reverse same
+
+pub takes : {A : Type 0} (p : Parser A) (with_tokens : List Token → A → A) (old before end new : Tokens) (bare x : A) (tokens : List Token)
+    → before.stack ≡ old.stack → before.taken ≡ [] → p (ahead before) ≡ Found bare (ahead end) → from_start end ≡ from_start before → new.stack ≡ end.stack → tokens ≡ end.taken → x ≡ with_tokens tokens bare
+    → Takes p with_tokens (ahead old) (Ok x) (ahead new)
+takes {A} p with_tokens old before end new bare x tokens same none e moved after kept is =
+    let a : ahead before ≡ ahead old = ahead-same before old same in
+    let b : ahead new ≡ ahead end = ahead-same new end after in
+    let start : from_start before ≡ ahead before = ap (λ l. l ++ ahead before) none in
+    (bare, tokens, ap p (sym a) ∙ e ∙ ap (λ l. Found bare l) (sym b), is, ap (λ l. l ++ ahead new) kept ∙ ap (λ l. end.taken ++ l) b ∙ moved ∙ start ∙ a)
+
+pub loses : {A : Type 0} (p : Parser A) (old before : Tokens) → before.stack ≡ old.stack → p (ahead before) ≡ Lost → p (ahead old) ≡ Lost
+loses p old before same e = ap p (sym (ahead-same before old same)) ∙ e
+
+module _ {A : Type 0} (P : A → Phrase) (p : Parser A) (tokens_of : A → List Token) (with_tokens : List Token → A → A) (part : IsPart P p tokens_of with_tokens) where
+  pub takes-found : (ts rest : List Token) (r : Result A SyntaxError) → Takes p with_tokens ts r rest → IfOk r (λ x. P x ts rest × (ts ≡ tokens_of x ++ rest))
+  takes-found ts rest (Ok x) (bare, tokens, e, is, kept) =
+      let Q : A → Type 0 = λ z. P z ts rest × (ts ≡ tokens_of z ++ rest) in
+      subst Q (sym is) (part-found P p tokens_of with_tokens part ts rest tokens bare e kept)
+  takes-found ts rest (Err e) reads = tt
+
+  pub takes-only : (ts after : List Token) (r : Result A SyntaxError) → Takes p with_tokens ts r after → (y : A) (rest : List Token) → P y ts rest × (ts ≡ tokens_of y ++ rest) → Gives r after y rest
+  takes-only ts after (Ok x) (bare, tokens, e, is, kept) y rest (s, of_y) =
+      let (same, ends) = part-only P p tokens_of with_tokens part ts after tokens bare e kept y rest s of_y in
+      (is ∙ same, ends)
+  takes-only ts after (Err error.NotSpelled) reads y rest (s, of_y) =
+      let other : error.NotSpelled ≢ error.OutOfMemory = λ e. cc in
+      absurd (part-lost P p tokens_of with_tokens part ts (reads other) y rest s)
+  takes-only ts after (Err error.OutOfMemory) reads y rest s = refl
+
+-- a part that keeps no tokens
+module _ {A : Type 0} (P : A → Phrase) (p : Parser A) (sound : (ts rest : List Token) (x : A) → p ts ≡ Found x rest → P x ts rest) (complete : (x : A) (ts rest : List Token) → P x ts rest → p ts ≡ Found x rest) where
+  pub steps-found : (old new : Tokens) (r : Result A SyntaxError) → Steps p old r new → IfOk r (λ x. P x (ahead old) (ahead new))
+  steps-found old new (Ok x) (e, moved) = sound (ahead old) (ahead new) x e
+  steps-found old new (Err e) reads = tt
+
+  pub steps-only : (old new : Tokens) (r : Result A SyntaxError) → Steps p old r new → (y : A) (rest : List Token) → P y (ahead old) rest → Gives r (ahead new) y rest
+  steps-only old new (Ok x) (e, moved) y rest s = let same : Found x (ahead new) ≡ Found y rest = sym e ∙ complete y (ahead old) rest s in (cc, cc)
+  steps-only old new (Err error.NotSpelled) reads y rest s =
+      let other : error.NotSpelled ≢ error.OutOfMemory = λ e. cc in
+      let same : Lost ≡ Found y rest = sym (reads other) ∙ complete y (ahead old) rest s in
+      cc
+  steps-only old new (Err error.OutOfMemory) reads y rest s = refl
+
+-- ---- tokens begin with one part at most
+
+pub one-kept : {A : Type 0} (P : A → Phrase) (p : Parser A) (tokens_of : A → List Token) (with_tokens : List Token → A → A) → IsPart P p tokens_of with_tokens → (one other : A) (ts rest other_rest : List Token)
+    → P one ts rest × (ts ≡ tokens_of one ++ rest) → P other ts other_rest × (ts ≡ tokens_of other ++ other_rest) → (one ≡ other) × (rest ≡ other_rest)
+one-kept P p tokens_of with_tokens part one other ts rest other_rest (s, of_one) (s1, of_other) =
+    let (same, ends) = part-only P p tokens_of with_tokens part ts rest (tokens_of one) (with_tokens [] one) (part.complete one ts rest s) (sym of_one) other other_rest s1 of_other in
+    (sym (part.own one) ∙ sym (part.again (tokens_of one) [] one) ∙ same, ends)
+
+pub one-found : {A : Type 0} (P : A → Phrase) (p : Parser A) → ((x : A) (ts rest : List Token) → P x ts rest → p ts ≡ Found x rest) → (one other : A) (ts rest other_rest : List Token) → P one ts rest → P other ts other_rest → (one ≡ other) × (rest ≡ other_rest)
+one-found P p complete one other ts rest other_rest s s1 = let same : Found one rest ≡ Found other other_rest = sym (complete one ts rest s) ∙ complete other ts other_rest s1 in (cc, cc)

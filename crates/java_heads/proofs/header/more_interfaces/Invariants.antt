@@ -1,0 +1,16 @@
+use Rattle.std.proofs.Common.{◌≡◌, length}
+use Rattle.java_tree.specs.declared.kind.Kind.TheVariants as k
+use Rattle.java_phrases.specs.Parser.{word, sees}
+use Rattle.java_heads.specs.Reading.{after}
+use Rattle.java_phrases.specs.Cursor.{ahead, from_start}
+use Rattle.java_phrases.proofs.Loops.{Continues}
+use Rattle.java_heads.proofs.header.more_interfaces.Given as goal
+
+abbrev pub invariant-more : goal.invariant-more
+invariant-more l = record {
+  reads : Continues (sees k.Comma) (after k.Comma (word k.Name)) (ahead l.initial.tokens) l.initial.found l.found (ahead l.tokens);
+  moved : from_start l.tokens ≡ from_start l.initial.tokens;
+}
+
+abbrev pub decreases-more : goal.decreases-more
+decreases-more l = length (ahead l.tokens)

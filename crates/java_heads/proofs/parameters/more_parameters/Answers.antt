@@ -1,0 +1,27 @@
+use Rattle.std.proofs.Common.{refl, ◌∙◌, sym, rules}
+use Rattle.java_tree.specs.declared.kind.Kind.TheVariants as k
+use Rattle.java_phrases.specs.Parser.{sees}
+use Rattle.java_heads.specs.Reading.{after, parameter}
+use Rattle.java_phrases.proofs.Loops.{begins, turn_goes, loop_fails, loop_ends}
+use Rattle.java_heads.proofs.ParameterLaws.{parameter_after-shorter}
+use Rattle.java_heads.proofs.parameters.more_parameters.Goals as goal
+
+pub more-init : goal.more-init
+more-init c = record { reads = begins (sees k.Comma) (after k.Comma parameter) _ _; moved = refl }
+
+pub returns-in_err-found : goal.returns-in_err-found
+returns-in_err-found c =
+    let fails = loop_fails (sees k.Comma) (after k.Comma parameter) _ _ _ _ c.more.invariant.reads (sym c.sees.ensures ∙ c.more-test.true) in
+    search rules
+
+pub more-smaller : goal.more-smaller
+more-smaller c = parameter_after-shorter k.Comma _ _ _ _ c.in_ok-found.ensures.0
+
+pub more-preserved : goal.more-preserved
+more-preserved c = record {
+  reads = turn_goes (sees k.Comma) (after k.Comma parameter) _ _ _ _ _ _ c.more.invariant.reads (sym c.sees.ensures ∙ c.more-test.true) c.in_ok-found.ensures.0 (parameter_after-shorter k.Comma _ _ _ _ c.in_ok-found.ensures.0);
+  moved = c.in_ok-found.ensures.1 ∙ c.more.invariant.moved;
+}
+
+pub returns : goal.returns
+returns c = (loop_ends (sees k.Comma) (after k.Comma parameter) _ _ _ _ c.more.invariant.reads (sym c.sees.ensures ∙ c.more-test.false), c.more.invariant.moved)

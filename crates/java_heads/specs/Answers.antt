@@ -1,0 +1,41 @@
+-- What the calls that read a part of a file answer.
+use Rattle.std.specs.Prelude.{◌≡◌, ◌≢◌, List, ◌++◌, Result, Ok, Err}
+use Rattle.java_tree.specs.declared.token.Token.{Token}
+use Rattle.java_tree.specs.declared.member.Field.{Field}
+use Rattle.java_tree.specs.declared.member.Sig.{Sig}
+use Rattle.java_phrases.specs.declared.error.SyntaxError.{SyntaxError}
+use Rattle.java_phrases.specs.declared.error.SyntaxError.TheVariants as error
+use Rattle.java_phrases.specs.Parser.{Found, Lost, Parser, ◌>>◌}
+use Rattle.java_heads.specs.declared.header.Header.{Header}
+use Rattle.java_heads.specs.Reading.{type_header, brace}
+
+-- this tree with these tokens after it, unless memory ran out
+abbrev pub Gives : {A : Type 0} → Result A SyntaxError → List Token → A → List Token → Type 0
+Gives (Ok found) after x rest = (found ≡ x) × (after ≡ rest)
+Gives (Err why) after x rest = why ≡ error.OutOfMemory
+
+-- ---- where a tree keeps its tokens
+
+abbrev pub field_with : List Token → Field → Field
+field_with tokens f = record { mods = f.mods; ty = f.ty; name = f.name; init = f.init; tokens = tokens }
+
+abbrev pub sig_with : List Token → Sig → Sig
+sig_with tokens s = record { mods = s.mods; result = s.result; name = s.name; params = s.params; throws = s.throws; tokens = tokens }
+
+abbrev pub header_with : List Token → Header → Header
+header_with tokens h = record { mods = h.mods; kind = h.kind; name = h.name; implements = h.implements; tokens = tokens }
+
+-- what the parser finds, unless memory fails
+abbrev pub Reads : {A : Type 0} → Parser A → List Token → Result A SyntaxError → List Token → Type 0
+Reads p ts (Ok x) rest = p ts ≡ Found x rest
+Reads p ts (Err e) rest = e ≢ error.OutOfMemory → p ts ≡ Lost
+
+-- the same, with the tokens that the parser took put into the tree
+abbrev pub Takes : {A : Type 0} → Parser A → (List Token → A → A) → List Token → Result A SyntaxError → List Token → Type 0
+Takes {A} p with_tokens ts (Ok x) rest = (bare : A) × (tokens : List Token) × (p ts ≡ Found bare rest) × (x ≡ with_tokens tokens bare) × (tokens ++ rest ≡ ts)
+Takes {A} p with_tokens ts (Err e) rest = e ≢ error.OutOfMemory → p ts ≡ Lost
+
+-- a header, whose brace isn't among its tokens
+abbrev pub TakesHeader : List Token → Result Header SyntaxError → List Token → Type 0
+TakesHeader ts (Ok h) rest = (mid : List Token) × Takes type_header header_with ts (Ok h) mid × (brace mid ≡ Found tt rest)
+TakesHeader ts (Err e) rest = e ≢ error.OutOfMemory → (type_header >> brace) ts ≡ Lost

@@ -1,0 +1,6 @@
+pub mod Spelling
+pub mod Modifiers
+pub mod Annotation
+pub mod Reading
+pub mod Answers
+pub mod Laws

@@ -1,0 +1,12 @@
+/// What modifiers stand before.
+#[derive(Clone, Copy, Debug, PartialEq, Eq)]
+pub enum Declaration {
+    Class,
+    Interface,
+    Field,
+    Method,
+    Sig,
+    Ctor,
+    Main,
+    Param,
+}

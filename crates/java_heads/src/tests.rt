@@ -1,0 +1,191 @@
+use crate::{one_part, read_field, read_header, read_import, read_package, read_sig};
+use java_lexer::lex;
+use java_phrases::{SyntaxError, Tokens};
+use java_tree::{Elem, Elements, Mod};
+use std::alloc::Global;
+use std::test::Fail;
+
+#[derive(Clone, Copy, Debug)]
+enum Part {
+    Package,
+    Import,
+    Header,
+    Field,
+    Sig,
+}
+
+/// Texts, each of one part, and whether they are read to their end.
+const TEXTS: [(Part, &[u8], bool); 64] = [
+    (Part::Package, b"package a;", true),
+    (Part::Package, b"package a.b.c;", true),
+    (Part::Package, b"package a.;", false),
+    (Part::Package, b"package a", false),
+    (Part::Import, b"import a;", true),
+    (Part::Import, b"import a.b.*;", true),
+    (Part::Import, b"import static a.b;", true),
+    (Part::Import, b"import static a.*;", true),
+    (Part::Import, b"import *;", false),
+    (Part::Import, b"import a.*.b;", false),
+    (Part::Import, b"import a.;", false),
+    (Part::Header, b"class A {", true),
+    (Part::Header, b"public final class A {", true),
+    (Part::Header, b"@X class A implements B, C {", true),
+    (Part::Header, b"interface A {", true),
+    (Part::Header, b"public interface A {", true),
+    (Part::Header, b"class A implements {", false),
+    (Part::Header, b"class A implements B.C {", false),
+    (Part::Header, b"interface A implements B {", false),
+    (Part::Header, b"final interface A {", false),
+    (Part::Header, b"public public class A {", false),
+    (Part::Header, b"private class A {", false),
+    (Part::Header, b"class Object {", false),
+    (Part::Header, b"class Thread {", false),
+    (Part::Header, b"interface Runnable {", false),
+    (Part::Header, b"class String {", false),
+    (Part::Header, b"class A", false),
+    (Part::Field, b"int n;", true),
+    (Part::Field, b"private static final boolean b = true;", true),
+    (Part::Field, b"Object o = new Object();", true),
+    (Part::Field, b"Object o = new String();", false),
+    (Part::Field, b"Object o = new Object(1);", false),
+    (Part::Field, b"int n = -2147483648;", true),
+    (Part::Field, b"int n = 2147483647;", true),
+    (Part::Field, b"int n = 2147483648;", false),
+    (Part::Field, b"int n = --1;", false),
+    (Part::Field, b"String s = \"a\";", true),
+    (Part::Field, b"A a = null;", true),
+    (Part::Field, b"A a = b;", false),
+    (Part::Field, b"public private int n;", false),
+    (Part::Field, b"abstract int n;", false),
+    (Part::Field, b"synchronized int n;", false),
+    (Part::Field, b"void n;", false),
+    (Part::Field, b"int n, m;", false),
+    (Part::Field, b"@A int n;", true),
+    (Part::Field, b"@a.B() int n;", true),
+    (Part::Field, b"@A(\"x\") int n;", true),
+    (Part::Field, b"@A(value = \"x\") int n;", true),
+    (Part::Field, b"@A(other = \"x\") int n;", false),
+    (Part::Field, b"@A({}) int n;", true),
+    (
+        Part::Field,
+        b"@A(value = {\"x\", @B, @C(@D({@E()}))}) final @F int n;",
+        true,
+    ),
+    (Part::Field, b"@A({\"x\",}) int n;", false),
+    (Part::Field, b"@A(\"x\", \"y\") int n;", false),
+    (Part::Field, b"@A(1) int n;", false),
+    (Part::Field, b"@A(@B int n;", false),
+    (Part::Sig, b"void f();", true),
+    (
+        Part::Sig,
+        b"public abstract A f(int n, final @B boolean b) throws C, d.E;",
+        true,
+    ),
+    (Part::Sig, b"static void f();", false),
+    (Part::Sig, b"void f(static int n);", false),
+    (Part::Sig, b"void f(int);", false),
+    (Part::Sig, b"void f(int n,);", false),
+    (Part::Sig, b"void f() throws;", false),
+    (Part::Sig, b"void f() { }", false),
+    (Part::Sig, b"f();", false),
+];
+
+fn read(alloc: Global, part: Part, tokens: &mut Tokens) -> Result<(), SyntaxError> {
+    match part {
+        Part::Package => {
+            read_package(alloc, tokens)?;
+        }
+        Part::Import => {
+            read_import(alloc, tokens)?;
+        }
+        Part::Header => {
+            read_header(alloc, tokens)?;
+        }
+        Part::Field => {
+            read_field(alloc, tokens)?;
+        }
+        Part::Sig => {
+            read_sig(alloc, tokens)?;
+        }
+    }
+    Ok(())
+}
+
+#[test]
+fn reads_parts(rt: HostRuntime) -> Result<(), Fail> {
+    for (part, text, is_read) in TEXTS {
+        assert!(rt; text.len() < 100);
+        let mut tokens = Tokens::new(rt.alloc(), lex(rt.alloc(), text)?)?;
+        match read(rt.alloc(), part, &mut tokens) {
+            Ok(()) => assert!(rt; is_read, "{text:?} is read"),
+            Err(fault) => {
+                assert!(rt; !is_read, "{text:?} is refused");
+                assert_eq!(rt; fault, SyntaxError::NotSpelled, "in {text:?}");
+            }
+        }
+        assert!(rt;
+            !is_read || tokens.peek().is_none(),
+            "{text:?} is read to its end"
+        );
+    }
+    Ok(())
+}
+
+fn is_text(elem: &Elem, wanted: &[u8]) -> bool {
+    match elem {
+        Elem::Str(text) => text.name.as_slice() == wanted,
+        Elem::Annot(_) => false,
+    }
+}
+
+/// The tree of `@A({"x", @B("y")}) int n;`, and its tokens.
+#[test]
+fn keeps_the_tree(rt: HostRuntime) -> Result<(), Fail> {
+    let text = b"@A({\"x\", @B(\"y\")}) int n;".as_slice();
+    let mut tokens = Tokens::new(rt.alloc(), lex(rt.alloc(), text)?)?;
+    let field = read_field(rt.alloc(), &mut tokens)?;
+    assert_eq!(rt; field.tokens.len(), 16);
+    let Some(Mod::Annot(outer)) = field.mods.get(0) else {
+        return Err(Fail::from("no annotation"));
+    };
+    let Elements::Many(_, None, elems, _) = &outer.elements else {
+        return Err(Fail::from("no elements in braces"));
+    };
+    let Some(Elem::Annot(inner)) = elems.get(1) else {
+        return Err(Fail::from("no inner annotation"));
+    };
+    let Elements::One(_, None, elem, _) = &inner.get().elements else {
+        return Err(Fail::from("no inner element"));
+    };
+    assert!(rt; is_text(elem.get(), b"\"y\""));
+    Ok(())
+}
+
+/// Annotations in one another. Where too many are open, the tree would be too deep to be dropped.
+#[test]
+fn deep_annotations(rt: HostRuntime) -> Result<(), Fail> {
+    for (depth, is_closed, wanted) in [
+        (1_000, true, None),
+        (1_000, false, Some(SyntaxError::NotSpelled)),
+        (65_000, true, Some(SyntaxError::OutOfMemory)),
+        (87_000, false, Some(SyntaxError::OutOfMemory)),
+    ] {
+        let mut text = Vec::new(rt.alloc());
+        for _ in 0..depth {
+            text.extend_from_slice(b"@A(")?;
+        }
+        if is_closed {
+            text.extend_from_slice(b"\"\"")?;
+            for _ in 0..depth {
+                text.push(b')')?;
+            }
+            text.extend_from_slice(b" int n;")?;
+        }
+        assert!(rt; text.len() < 300_000);
+        let mut tokens = Tokens::new(rt.alloc(), lex(rt.alloc(), text.as_slice())?)?;
+        let read = read_field(rt.alloc(), &mut tokens);
+        assert_eq!(rt; read.err(), wanted, "at {depth} annotations");
+    }
+    one_part();
+    Ok(())
+}

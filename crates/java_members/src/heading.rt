@@ -1,0 +1,226 @@
+//! Members up to their bodies. Which production a member is of is told by the tokens behind its
+//! modifiers.
+
+ghost use Rattle.std.specs.Prelude.{◌≡◌};
+ghost use Rattle.java_phrases.specs.Cursor.{ahead, Steps};
+ghost use Rattle.java_members.specs.Reading as spec;
+
+use desk_base::{Name, Span};
+use java_heads::{
+    Declaration, modifiers_fit, read_all_modifiers, read_field_end, read_named, read_parameters,
+    read_perhaps, read_throws,
+};
+use java_phrases::{SyntaxError, Tokens, read_type};
+use java_tree::{Field, Kind, Mod, Param, Ty, Word};
+use sqlite_items::Items;
+use std::alloc::Global;
+
+#[derive(Drop)]
+pub(crate) struct MethodHeading {
+    pub(crate) mods: Items<Mod>,
+    pub(crate) result: Option<Ty>,
+    pub(crate) name: Word,
+    pub(crate) params: Items<Param>,
+    pub(crate) throws: Items<Items<Word>>,
+}
+
+#[derive(Drop)]
+pub(crate) struct CtorHeading {
+    pub(crate) mods: Items<Mod>,
+    pub(crate) name: Word,
+    pub(crate) params: Items<Param>,
+    pub(crate) throws: Items<Items<Word>>,
+}
+
+#[derive(Drop)]
+pub(crate) struct MainHeading {
+    pub(crate) mods: Items<Mod>,
+    pub(crate) name: Word,
+    pub(crate) final_word: Option<Span>,
+    pub(crate) param: Word,
+    pub(crate) throws: Items<Items<Word>>,
+}
+
+/// A member up to its body. A field has none, and is whole but for its tokens.
+#[derive(Drop)]
+pub(crate) enum Heading {
+    Field(Field),
+    Method(MethodHeading),
+    Ctor(CtorHeading),
+    Main(MainHeading),
+}
+
+/// Whether the token behind so many others is of this kind.
+#[tactic(auto, unfolding(crate::specs::Reading::stands))]
+fn stands(tokens: &Tokens, others: usize, kind: Kind) -> bool
+    ensures { result ≡ spec.stands kind others (ahead tokens.now) }
+{
+    match tokens.kind_at(others) {
+        Some(found) => found == kind,
+        None => false,
+    }
+}
+
+/// Whether a parenthesis and an array of a named type stand next.
+#[tactic(auto, unfolding(crate::specs::Reading::takes_array))]
+fn takes_array(tokens: &Tokens) -> bool
+    ensures { result ≡ spec.takes_array (ahead tokens.now) }
+{
+    if stands(tokens, 1, Kind::Final) {
+        stands(tokens, 2, Kind::Name) && stands(tokens, 3, Kind::LBracket)
+    } else {
+        stands(tokens, 1, Kind::Name) && stands(tokens, 2, Kind::LBracket)
+    }
+}
+
+/// Whether a name and a parenthesis stand next.
+#[tactic(auto, unfolding(crate::specs::Reading::calls_name))]
+fn calls_name(tokens: &Tokens) -> bool
+    ensures { result ≡ spec.calls_name (ahead tokens.now) }
+{
+    stands(tokens, 0, Kind::Name) && stands(tokens, 1, Kind::LParen)
+}
+
+#[tactic(auto, unfolding(crate::specs::Reading::method_end))]
+fn method_end(
+    alloc: Global,
+    tokens: &mut Tokens,
+    mods: Items<Mod>,
+    result_type: Option<Ty>,
+    name: Word,
+) -> Result<Heading, SyntaxError>
+    ensures { Steps (spec.method_end mods result_type name) tokens.old result tokens.new }
+{
+    if !modifiers_fit(Declaration::Method, mods.as_slice()) {
+        return Err(SyntaxError::NotSpelled);
+    }
+    let params = read_parameters(alloc, tokens)?;
+    let throws = read_throws(alloc, tokens)?;
+    Ok(Heading::Method(MethodHeading {
+        mods,
+        result: result_type,
+        name,
+        params,
+        throws,
+    }))
+}
+
+#[tactic(auto, unfolding(crate::specs::Reading::main_end))]
+fn main_end(
+    alloc: Global,
+    tokens: &mut Tokens,
+    mods: Items<Mod>,
+    name: Word,
+) -> Result<Heading, SyntaxError>
+    ensures { Steps (spec.main_end mods name) tokens.old result tokens.new }
+{
+    if !modifiers_fit(Declaration::Main, mods.as_slice()) {
+        return Err(SyntaxError::NotSpelled);
+    }
+    if name.name.as_slice() != b"main".as_slice() {
+        return Err(SyntaxError::NotSpelled);
+    }
+    tokens.sign(Kind::LParen)?;
+    let final_word = read_perhaps(tokens, Kind::Final)?;
+    let _string = read_named(alloc, tokens, b"String")?;
+    tokens.sign(Kind::LBracket)?;
+    tokens.sign(Kind::RBracket)?;
+    let param = tokens.word(alloc, Kind::Name)?;
+    tokens.sign(Kind::RParen)?;
+    let throws = read_throws(alloc, tokens)?;
+    Ok(Heading::Main(MainHeading {
+        mods,
+        name,
+        final_word,
+        param,
+        throws,
+    }))
+}
+
+#[tactic(auto, unfolding(crate::specs::Reading::void_member))]
+fn void_member(alloc: Global, tokens: &mut Tokens, mods: Items<Mod>) -> Result<Heading, SyntaxError>
+    ensures { Steps (spec.void_member mods) tokens.old result tokens.new }
+{
+    tokens.sign(Kind::Void)?;
+    let name = tokens.word(alloc, Kind::Name)?;
+    if takes_array(tokens) {
+        main_end(alloc, tokens, mods, name)
+    } else {
+        method_end(alloc, tokens, mods, None, name)
+    }
+}
+
+#[tactic(auto, unfolding(crate::specs::Reading::constructor))]
+fn constructor(
+    alloc: Global,
+    tokens: &mut Tokens,
+    class_name: &Name,
+    mods: Items<Mod>,
+) -> Result<Heading, SyntaxError>
+    ensures { Steps (spec.constructor class_name.now mods) tokens.old result tokens.new }
+{
+    if !modifiers_fit(Declaration::Ctor, mods.as_slice()) {
+        return Err(SyntaxError::NotSpelled);
+    }
+    let name = read_named(alloc, tokens, class_name.as_slice())?;
+    let params = read_parameters(alloc, tokens)?;
+    let throws = read_throws(alloc, tokens)?;
+    Ok(Heading::Ctor(CtorHeading {
+        mods,
+        name,
+        params,
+        throws,
+    }))
+}
+
+#[tactic(auto, unfolding(crate::specs::Reading::field_member))]
+fn field_member(
+    alloc: Global,
+    tokens: &mut Tokens,
+    mods: Items<Mod>,
+    ty: Ty,
+    name: Word,
+) -> Result<Heading, SyntaxError>
+    ensures { Steps (spec.field_member mods ty name) tokens.old result tokens.new }
+{
+    if !modifiers_fit(Declaration::Field, mods.as_slice()) {
+        return Err(SyntaxError::NotSpelled);
+    }
+    Ok(Heading::Field(read_field_end(alloc, tokens, mods, ty, name)?))
+}
+
+#[tactic(auto, unfolding(crate::specs::Reading::typed_member))]
+fn typed_member(
+    alloc: Global,
+    tokens: &mut Tokens,
+    mods: Items<Mod>,
+) -> Result<Heading, SyntaxError>
+    ensures { Steps (spec.typed_member mods) tokens.old result tokens.new }
+{
+    let ty = read_type(alloc, tokens)?;
+    let name = tokens.word(alloc, Kind::Name)?;
+    if tokens.sees(Kind::LParen) {
+        method_end(alloc, tokens, mods, Some(ty), name)
+    } else {
+        field_member(alloc, tokens, mods, ty, name)
+    }
+}
+
+/// A member of the class of this name, up to its body.
+#[tactic(auto, unfolding(crate::specs::Reading::member_heading))]
+pub(crate) fn member_heading(
+    alloc: Global,
+    tokens: &mut Tokens,
+    class_name: &Name,
+) -> Result<Heading, SyntaxError>
+    ensures { Steps (spec.member_heading class_name.now) tokens.old result tokens.new }
+{
+    let mods = read_all_modifiers(alloc, tokens)?;
+    if tokens.sees(Kind::Void) {
+        void_member(alloc, tokens, mods)
+    } else if calls_name(tokens) {
+        constructor(alloc, tokens, class_name, mods)
+    } else {
+        typed_member(alloc, tokens, mods)
+    }
+}

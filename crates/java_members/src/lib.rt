@@ -1,0 +1,13 @@
+//! Reading the members of a class: fields, methods, constructors and `main`, each by its first tokens.
+//! It knows nothing of whole files, nor of names and types.
+#![tactic(auto)]
+
+mod body;
+mod heading;
+mod laws;
+mod reader;
+#[cfg(test)]
+mod tests;
+
+pub use laws::one_member;
+pub use reader::read_member;

@@ -1,0 +1,5 @@
+pub mod Turned
+pub mod Token
+pub mod Phrases
+pub mod Loops
+pub mod TypeLaws

@@ -1,0 +1,4 @@
+pub mod Phrase
+pub mod Parser
+pub mod Cursor
+pub mod Types

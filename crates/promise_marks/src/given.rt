@@ -1,0 +1,93 @@
+ghost use Rattle.std.specs.Prelude.{◌≡◌, ◌++◌, IfOk, OnOk};
+ghost use Rattle.std.specs.Option.{option_map};
+ghost use Rattle.java_tree.specs.declared.member.Elem.{out-Elem};
+ghost use Rattle.promise_marks.specs.Given as spec;
+ghost use Rattle.promise_marks.specs.Marks.{IsTree};
+
+use desk_base::{Bytes, OutOfMemory};
+use java_lexer::string_value;
+use java_tree::{Annot, Elem, Elements, Word};
+use promise_grammar::{PromiseError, PromiseKind, PromiseTree, read_promise};
+use std::alloc::Global;
+
+fn last_name(words: &[Word]) -> &[u8]
+    ensures { result.now ≡ spec.last_name words.now }
+{
+    match words {
+        [] => &[],
+        [.., last] => last.name.as_slice(),
+    }
+}
+
+/// The name that an annotation goes by: the last one of its qualified name.
+pub(crate) fn name_of(annot: &Annot) -> &[u8]
+    ensures { result.now ≡ spec.name_of annot.now }
+{
+    last_name(annot.name.as_slice())
+}
+
+/// What the containers hold.
+pub(crate) fn held_by(name: &[u8]) -> Option<PromiseKind>
+    ensures { result ≡ spec.held_by name.now }
+{
+    if name == b"Regions".as_slice() {
+        Some(PromiseKind::Region)
+    } else if name == b"RegionLocks".as_slice() {
+        Some(PromiseKind::RegionLock)
+    } else if name == b"Promises".as_slice() {
+        Some(PromiseKind::Promise)
+    } else if name == b"Assumes".as_slice() {
+        Some(PromiseKind::Assume)
+    } else {
+        None
+    }
+}
+
+fn string_in(alloc: Global, elem: &Elem) -> Result<Option<Bytes>, OutOfMemory>
+    ensures { IfOk result (λ value. value ≡ spec.string_in (out-Elem elem.now)) }
+{
+    match elem {
+        Elem::Str(word) => Ok(Some(string_value(alloc, word.name.as_slice())?)),
+        Elem::Annot(_) => Ok(None),
+    }
+}
+
+fn content_in(alloc: Global, elems: &[Elem]) -> Result<Option<Bytes>, OutOfMemory>
+    ensures { IfOk result (λ content. content ≡ spec.content_of elems.now) }
+{
+    match elems {
+        [] => Ok(Some(Bytes::new(alloc))),
+        [elem] => string_in(alloc, elem),
+        _ => Ok(None),
+    }
+}
+
+/// The value of an annotation's one string, which is empty where it has no element.
+pub(crate) fn content_of(alloc: Global, annot: &Annot) -> Result<Option<Bytes>, OutOfMemory>
+    ensures { IfOk result (λ content. content ≡ spec.content_of (spec.elems_of annot.now)) }
+{
+    match &annot.elements {
+        Elements::Bare => Ok(Some(Bytes::new(alloc))),
+        Elements::Empty(_, _) => Ok(Some(Bytes::new(alloc))),
+        Elements::One(_, _, elem, _) => string_in(alloc, elem.get()),
+        Elements::Many(_, _, elems, _) => content_in(alloc, elems.as_slice()),
+    }
+}
+
+/// The tree of a content, or `None` where it spells none.
+pub(crate) fn tree_of(
+    alloc: Global,
+    kind: PromiseKind,
+    content: &Option<Bytes>,
+) -> Result<Option<PromiseTree>, OutOfMemory>
+    ensures { IfOk result (λ tree. IsTree kind content.now tree) }
+{
+    let Some(content) = content else {
+        return Ok(None);
+    };
+    match read_promise(alloc, kind, content.as_slice()) {
+        Ok(tree) => Ok(Some(tree)),
+        Err(PromiseError::Grammar) => Ok(None),
+        Err(PromiseError::OutOfMemory) => Err(OutOfMemory),
+    }
+}

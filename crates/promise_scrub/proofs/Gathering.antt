@@ -1,0 +1,173 @@
+-- The annotations of members, the kinds of regions and locks, and the codes of a header, one by one.
+use Rattle.std.proofs.Common.{◌≡◌, ℕ, zero, suc, ◌+◌, ◌<◌, List, [], ◌∷◌, ◌++◌, length, take, get_or, refl, sym, ◌∙◌, ap, subst, Bool, true, false, cond}
+use Rattle.std.specs.Prelude.{Option, Some, None, codes, is_some}
+use Rattle.std.specs.Option.{option_or}
+use Rattle.std.specs.Str.{bytes_eq}
+use Rattle.std.specs.Map.{lookup}
+use Rattle.std.specs.Ordering.{nat_cmp, is_eq}
+use Rattle.std.specs.Cmp.Lexicographic.{slice_cmp}
+use Rattle.std.specs.BTreeMap.{BTreeMap, Updates, IsEmpty, is_at}
+use Rattle.std.proofs.lemmas.List.{take_more, length-set, length-map}
+use Rattle.std.proofs.lemmas.Map.Text.{is_eq-slice_cmp}
+use Rattle.std.proofs.lemmas.Slice.Eq.{bytes_eq-Decides}
+use Rattle.java_tree.specs.declared.member.MemberTree.{MemberTree}
+use Rattle.region_tree.specs.declared.decl.RegionDecl.{RegionDecl}
+use Rattle.promise_marks.specs.declared.mark.Mark.{Mark}
+use Rattle.promise_marks.specs.Given.{by_member}
+use Rattle.promise_marks.specs.Marks.{AreMarks}
+use Rattle.scrub_rules.specs.declared.code.ScrubCode.{ScrubCode}
+use Rattle.scrub_rules.specs.Target.{kinds_in}
+use Rattle.promise_scrub.specs.declared.lock.Lock.{Lock}
+use Rattle.promise_scrub.specs.Locks.{LockSteps, declared_kind, region_kind}
+use Rattle.class_faces.specs.declared.face.FieldFace.{FieldFace}
+use Rattle.scrub_rules.specs.declared.place.Site.{Site}
+use Rattle.scrub_rules.specs.Place.{first_code}
+use Rattle.promise_scrub.specs.Regions.{Scrubs, ScrubsIn, first_codes}
+use Rattle.promise_scrub.specs.Surfaces.{AreMemberMarks, lock_kind, PutsKind, HasKinds}
+
+marks_push : (ms : List MemberTree) (marks : List (List Mark)) (m : MemberTree) (new : List Mark) → AreMemberMarks ms marks → AreMarks (by_member m) new
+    → AreMemberMarks (ms ++ m ∷ []) (marks ++ new ∷ [])
+marks_push [] [] m new are more = (more, tt)
+marks_push [] (a ∷ as_) m new are more = absurd are
+marks_push (k ∷ ks) [] m new are more = absurd are
+marks_push (k ∷ ks) (a ∷ rest) m new are more = (are.0, marks_push ks rest m new are.1 more)
+
+-- those of one member more
+pub marks_more : (ms : List MemberTree) (i : ℕ) (m : MemberTree) (marks : List (List Mark)) (new : List Mark) → i < length ms → m ≡ get_or ms i m
+    → AreMemberMarks (take i ms) marks → AreMarks (by_member m) new → AreMemberMarks (take (i + 1) ms) (marks ++ new ∷ [])
+marks_more ms i m marks new low is are more =
+    subst (λ (z : List MemberTree). AreMemberMarks z (marks ++ new ∷ [])) (ap (λ (x : MemberTree). take i ms ++ x ∷ []) is ∙ sym (take_more ms i m low))
+    (marks_push (take i ms) marks m new are more)
+
+or_none : (o : Option Bool) → option_or o None ≡ o
+or_none None = refl
+or_none (Some x) = refl
+
+-- a name that was not there has a kind now
+pub inserted_first : (old new : BTreeMap (List ℕ) Bool) (name : List ℕ) (kind : Bool) → Updates (slice_cmp nat_cmp) old new name (Some kind)
+    → kinds_in old name ≡ None → PutsKind old new name kind
+inserted_first old new name kind u absent = record { puts = λ q. go q (bytes_eq name q) refl }
+  where
+    go : (q : List ℕ) (b : Bool) → bytes_eq name q ≡ b → kinds_in new q ≡ option_or (kinds_in old q) (cond (bytes_eq name q) (Some kind) None)
+    go q true e =
+        let test : is_eq (slice_cmp nat_cmp name q) ≡ true = is_eq-slice_cmp name q ∙ e in
+        let none : kinds_in old q ≡ None = subst (λ (z : List ℕ). kinds_in old z ≡ None) ((bytes_eq-Decides name q).0 e) absent in
+        u.0 q ∙ ap (λ (b : Bool). cond b (Some kind) (kinds_in old q)) test
+        ∙ sym (ap (λ (z : Option Bool). option_or z (cond (bytes_eq name q) (Some kind) None)) none ∙ ap (λ (b : Bool). cond b (Some kind) None) e)
+    go q false e =
+        let test : is_eq (slice_cmp nat_cmp name q) ≡ false = is_eq-slice_cmp name q ∙ e in
+        u.0 q ∙ ap (λ (b : Bool). cond b (Some kind) (kinds_in old q)) test
+        ∙ sym (ap (λ (b : Bool). option_or (kinds_in old q) (cond b (Some kind) None)) e ∙ or_none (kinds_in old q))
+
+-- a name that was there stays
+pub stays_first : (map_ : BTreeMap (List ℕ) Bool) (name : List ℕ) (kind : Bool) → is_some (kinds_in map_ name) ≡ true → PutsKind map_ map_ name kind
+stays_first map_ name kind there = record { puts = λ q. go q (bytes_eq name q) refl }
+  where
+    keeps : (o p : Option Bool) → is_some o ≡ true → o ≡ option_or o p
+    keeps None p h = absurd (cc)
+    keeps (Some x) p h = refl
+
+    go : (q : List ℕ) (b : Bool) → bytes_eq name q ≡ b → kinds_in map_ q ≡ option_or (kinds_in map_ q) (cond (bytes_eq name q) (Some kind) None)
+    go q true e = keeps (kinds_in map_ q) (cond (bytes_eq name q) (Some kind) None) (subst (λ (z : List ℕ). is_some (kinds_in map_ z) ≡ true) ((bytes_eq-Decides name q).0 e) there)
+    go q false e = sym (ap (λ (b : Bool). option_or (kinds_in map_ q) (cond b (Some kind) None)) e ∙ or_none (kinds_in map_ q))
+
+lock_push : (ls : List Lock) (l : Lock) (q : List ℕ) → lock_kind (ls ++ l ∷ []) q ≡ option_or (lock_kind ls q) (cond (bytes_eq l.name q) (Some l.is_static) None)
+lock_push [] l q = refl
+lock_push (k ∷ ks) l q = elim (bytes_eq k.name q) as (λ b. cond b (Some k.is_static) (lock_kind (ks ++ l ∷ []) q)
+    ≡ option_or (cond b (Some k.is_static) (lock_kind ks q)) (cond (bytes_eq l.name q) (Some l.is_static) None)) [ true ↦ refl | false ↦ lock_push ks l q ]
+
+pub kinds_none : (map_ : BTreeMap (List ℕ) Bool) → IsEmpty map_ → HasKinds map_ (lock_kind [])
+kinds_none map_ empty = record { has = λ q. ap (λ (es : List (List ℕ × Bool)). lookup (is_at (slice_cmp nat_cmp q)) es) empty }
+
+-- the kind of one lock more
+pub locks_more : (ls : List Lock) (i : ℕ) (l : Lock) (old new : BTreeMap (List ℕ) Bool) (name : List ℕ) → i < length ls → l ≡ get_or ls i l → name ≡ l.name
+    → HasKinds old (lock_kind (take i ls)) → PutsKind old new name l.is_static → HasKinds new (lock_kind (take (i + 1) ls))
+locks_more ls i l old new name low is named has puts = record {
+  has = λ q.
+      puts.puts q ∙ ap (λ (z : Option Bool). option_or z (cond (bytes_eq name q) (Some l.is_static) None)) (has.has q)
+      ∙ ap (λ (z : List ℕ). option_or (lock_kind (take i ls) q) (cond (bytes_eq z q) (Some l.is_static) None)) named
+      ∙ sym (lock_push (take i ls) l q)
+      ∙ ap (λ (z : List Lock). lock_kind z q) (ap (λ (x : Lock). take i ls ++ x ∷ []) is ∙ sym (take_more ls i l low));
+}
+
+declared_push : (ds : List RegionDecl) (d : RegionDecl) (q : List ℕ) → declared_kind (ds ++ d ∷ []) q ≡ option_or (declared_kind ds q) (cond (bytes_eq d.name q) (Some d.is_static) None)
+declared_push [] d q = refl
+declared_push (k ∷ ks) d q = elim (bytes_eq k.name q) as (λ b. cond b (Some k.is_static) (declared_kind (ks ++ d ∷ []) q)
+    ≡ option_or (cond b (Some k.is_static) (declared_kind ks q)) (cond (bytes_eq d.name q) (Some d.is_static) None)) [ true ↦ refl | false ↦ declared_push ks d q ]
+
+two_tests : (a b : Bool) (x y p : Option Bool) → x ≡ option_or y p → cond a (Some false) (cond b (Some true) x) ≡ option_or (cond a (Some false) (cond b (Some true) y)) p
+two_tests true b x y p h = refl
+two_tests false true x y p h = refl
+two_tests false false x y p h = h
+
+region_push : (ds : List RegionDecl) (d : RegionDecl) (q : List ℕ) → region_kind (ds ++ d ∷ []) q ≡ option_or (region_kind ds q) (cond (bytes_eq d.name q) (Some d.is_static) None)
+region_push ds d q = two_tests (bytes_eq q (codes "Instance")) (bytes_eq q (codes "Static")) _ _ _ (declared_push ds d q)
+
+-- the kind of one region more
+pub regions_more : (ds : List RegionDecl) (i : ℕ) (d : RegionDecl) (old new : BTreeMap (List ℕ) Bool) (name : List ℕ) → i < length ds → d ≡ get_or ds i d → name ≡ d.name
+    → HasKinds old (region_kind (take i ds)) → PutsKind old new name d.is_static → HasKinds new (region_kind (take (i + 1) ds))
+regions_more ds i d old new name low is named has puts = record {
+  has = λ q.
+      puts.puts q ∙ ap (λ (z : Option Bool). option_or z (cond (bytes_eq name q) (Some d.is_static) None)) (has.has q)
+      ∙ ap (λ (z : List ℕ). option_or (region_kind (take i ds) q) (cond (bytes_eq z q) (Some d.is_static) None)) named
+      ∙ sym (region_push (take i ds) d q)
+      ∙ ap (λ (z : List RegionDecl). region_kind z q) (ap (λ (x : RegionDecl). take i ds ++ x ∷ []) is ∙ sym (take_more ds i d low));
+}
+
+symmetric : (xs ys : List ℕ) → bytes_eq xs ys ≡ bytes_eq ys xs
+symmetric xs ys = go (bytes_eq xs ys) (bytes_eq ys xs) refl refl
+  where
+    go : (a b : Bool) → bytes_eq xs ys ≡ a → bytes_eq ys xs ≡ b → a ≡ b
+    go true true p q = refl
+    go false false p q = refl
+    go true false p q = let e : ys ≡ xs = sym ((bytes_eq-Decides xs ys).0 p) in let h : bytes_eq ys xs ≡ true = (bytes_eq-Decides ys xs).1 e in cc
+    go false true p q = let e : xs ≡ ys = sym ((bytes_eq-Decides ys xs).0 q) in let h : bytes_eq xs ys ≡ true = (bytes_eq-Decides xs ys).1 e in cc
+
+roots_by : (a b : Bool) → option_or {T = Bool} (option_or {T = Bool} None (cond a (Some false) None)) (cond b (Some true) None) ≡ cond a (Some false) (cond b (Some true) None)
+roots_by true b = refl
+roots_by false true = refl
+roots_by false false = refl
+
+-- the kinds of the roots
+pub roots_kinds : (m0 m1 m2 : BTreeMap (List ℕ) Bool) (first second : List ℕ) → IsEmpty m0 → first ≡ codes "Instance" → second ≡ codes "Static"
+    → PutsKind m0 m1 first false → PutsKind m1 m2 second true → HasKinds m2 (region_kind [])
+roots_kinds m0 m1 m2 first second empty is_first is_second one two = record {
+  has = λ q.
+      two.puts q
+      ∙ ap (λ (z : Option Bool). option_or z (cond (bytes_eq second q) (Some true) None))
+      (one.puts q ∙ ap (λ (z : Option Bool). option_or z (cond (bytes_eq first q) (Some false) None)) (ap (λ (es : List (List ℕ × Bool)). lookup (is_at (slice_cmp nat_cmp q)) es) empty))
+      ∙ roots_by (bytes_eq first q) (bytes_eq second q)
+      ∙ ap (λ (z : Bool). cond z (Some false) (cond (bytes_eq second q) (Some true) None)) (ap (λ (z : List ℕ). bytes_eq z q) is_first ∙ symmetric (codes "Instance") q)
+      ∙ ap (λ (z : Bool). cond (bytes_eq q (codes "Instance")) (Some false) (cond z (Some true) None)) (ap (λ (z : List ℕ). bytes_eq z q) is_second ∙ symmetric (codes "Static") q);
+}
+
+-- the codes stay as many as they were
+pub codes_long : (n : ℕ) (ds : List RegionDecl) (ps : List ℕ) (cs : List (Option ScrubCode)) (left : List RegionDecl) (after : List (Option ScrubCode))
+    → ScrubsIn n ds ps cs left after → length after ≡ length cs
+codes_long zero ds ps cs left after (good, is, same) = ap length same
+codes_long (suc n) ds ps cs left after (why, fault, (fewer, places, between, aside, rest)) =
+    codes_long n fewer places between left after rest ∙ ap length aside.coded ∙ length-set cs aside.place (Some _)
+
+pub none_of : (o : Option Bool) → is_some o ≡ false → o ≡ None
+none_of None h = refl
+none_of (Some x) h = absurd (cc)
+
+-- the same at equal lists
+pub scrubs_at : (ds ds' : List RegionDecl) (ps ps' : List ℕ) (cs cs' : List (Option ScrubCode)) (left : List RegionDecl) (after : List (Option ScrubCode))
+    → ds ≡ ds' → ps ≡ ps' → cs ≡ cs' → Scrubs ds ps cs left after → Scrubs ds' ps' cs' left after
+scrubs_at ds ds' ps ps' cs cs' left after same_ds same_ps same_cs s =
+    subst (λ (z : List RegionDecl). Scrubs z ps' cs' left after) same_ds
+    (subst (λ (z : List ℕ). Scrubs ds z cs' left after) same_ps
+    (subst (λ (z : List (Option ScrubCode)). Scrubs ds ps z left after) same_cs s))
+
+pub steps_at : (rs rs' : List RegionDecl) (fields : List FieldFace) (marks : List Mark) (cs cs' : List (Option ScrubCode)) (locks : List Lock) (after : List (Option ScrubCode))
+    → rs ≡ rs' → cs ≡ cs' → LockSteps rs fields marks cs [] locks after → LockSteps rs' fields marks cs' [] locks after
+steps_at rs rs' fields marks cs cs' locks after same_rs same_cs s =
+    subst (λ (z : List RegionDecl). LockSteps z fields marks cs' [] locks after) same_rs
+    (subst (λ (z : List (Option ScrubCode)). LockSteps rs fields marks z [] locks after) same_cs s)
+
+-- the codes are as many as the annotations
+pub codes_fit : (site : Site) (marks : List Mark) (cs cs' after : List (Option ScrubCode)) (ds : List RegionDecl) (ps : List ℕ) (left : List RegionDecl)
+    → cs' ≡ after → cs ≡ first_codes site marks → Scrubs ds ps cs left after → length cs' ≡ length marks
+codes_fit site marks cs cs' after ds ps left same first s =
+    ap length same ∙ codes_long s.0 ds ps cs left after s.1 ∙ ap length first ∙ length-map marks (λ (m : Mark). first_code site m.tree)

@@ -1,0 +1,4 @@
+pub mod Overlapping
+pub mod Stepping
+pub mod Gathering
+pub mod Facing

@@ -1,0 +1,6 @@
+pub mod Judging
+pub mod Locks
+pub mod Members
+pub mod Regions
+pub mod Surfaces
+pub mod Units

@@ -1,0 +1,138 @@
+-- The locks of a class: which of its RegionLock annotations stand.
+use Rattle.std.specs.Prelude.{◌≡◌, ℕ, Bool, true, false, ◌&&◌, ◌||◌, not, ◌⊎◌, List, [], ◌∷◌, ◌++◌, Option, Some, None, find, codes, if◌then◌else◌}
+use Rattle.std.specs.List.{list_any}
+use Rattle.std.specs.Str.{bytes_eq}
+use Rattle.class_faces.specs.declared.face.FieldFace.{FieldFace}
+use Rattle.promise_grammar.specs.declared.lock.LockHolder.{LockHolder}
+use Rattle.promise_grammar.specs.declared.lock.LockHolder.TheVariants as holding
+use Rattle.promise_grammar.specs.declared.lock.RegionLockContent.{RegionLockContent}
+use Rattle.promise_grammar.specs.declared.tree.PromiseTree.{PromiseTree, out-PromiseTree}
+use Rattle.promise_grammar.specs.declared.tree.PromiseTree.TheOpen.{PromiseTree-F}
+use Rattle.promise_marks.specs.declared.mark.Mark.{Mark}
+use Rattle.region_tree.specs.declared.decl.RegionDecl.{RegionDecl}
+use Rattle.region_tree.specs.Chains.{IsUnder}
+use Rattle.region_tree.specs.Regions.{number_of, parents_of}
+use Rattle.scrub_rules.specs.declared.code.ScrubCode.{ScrubCode}
+use Rattle.scrub_rules.specs.declared.code.ScrubCode.TheVariants as scrub
+use Rattle.promise_scrub.specs.Regions.{is_root}
+use Rattle.promise_scrub.specs.declared.lock.Lock.{Lock}
+
+-- whether the region of a name is static, where there is one: the roots', or the first declared one's
+abbrev pub declared_kind : List RegionDecl → List ℕ → Option Bool
+declared_kind [] name = None
+declared_kind (d ∷ ds) name = if bytes_eq d.name name then Some d.is_static else declared_kind ds name
+
+abbrev pub region_kind : List RegionDecl → List ℕ → Option Bool
+region_kind declared name =
+    if bytes_eq name (codes "Instance") then Some false else (
+    if bytes_eq name (codes "Static") then Some true else declared_kind declared name)
+
+-- the field that a lock is held by, the first of that name
+abbrev pub field_named : List FieldFace → List ℕ → Option FieldFace
+field_named fields name = find (λ f. bytes_eq f.name name) fields
+
+abbrev pub is_static_field : Option FieldFace → Bool
+is_static_field None = false
+is_static_field (Some f) = f.is_static
+
+abbrev pub is_instance_field : Option FieldFace → Bool
+is_instance_field None = false
+is_instance_field (Some f) = not f.is_static
+
+-- a lock by `class` or a static field is static
+abbrev pub is_static_lock : List FieldFace → LockHolder → Bool
+is_static_lock fields holding.This = false
+is_static_lock fields holding.Class = true
+is_static_lock fields (holding.Field name) = is_static_field (field_named fields name)
+is_static_lock fields (holding.ThisField name) = is_static_field (field_named fields name)
+
+-- a lock by `this` or an instance field is one of the instance
+abbrev pub is_instance_lock : List FieldFace → LockHolder → Bool
+is_instance_lock fields holding.This = true
+is_instance_lock fields holding.Class = false
+is_instance_lock fields (holding.Field name) = is_instance_field (field_named fields name)
+is_instance_lock fields (holding.ThisField name) = is_instance_field (field_named fields name)
+
+-- an instance form of a static lock
+abbrev pub mixes_form : List FieldFace → LockHolder → Bool
+mixes_form fields (holding.ThisField name) = is_static_field (field_named fields name)
+mixes_form fields _ = false
+
+abbrev pub has_lock_form : Option FieldFace → Bool
+has_lock_form None = false
+has_lock_form (Some f) = f.lock_form
+
+-- the field has the form that a lock's field has
+abbrev pub fits_lock : List FieldFace → LockHolder → Bool
+fits_lock fields holding.This = true
+fits_lock fields holding.Class = true
+fits_lock fields (holding.Field name) = has_lock_form (field_named fields name)
+fits_lock fields (holding.ThisField name) = has_lock_form (field_named fields name)
+
+abbrev pub has_lock : List Lock → List ℕ → Bool
+has_lock locks name = list_any (λ l. bytes_eq l.name name) locks
+
+abbrev pub by_kind : List FieldFace → LockHolder → Option Bool → Option ScrubCode
+by_kind fields holder None = Some scrub.UnknownRegion
+by_kind fields holder (Some is_static) =
+    if is_static && is_instance_lock fields holder then Some scrub.MixedKinds else (
+    if fits_lock fields holder then None else Some scrub.BadLockField)
+
+-- the first code of a RegionLock but that of overlapping regions, after these locks stand
+abbrev pub early_code : List RegionDecl → List FieldFace → List Lock → RegionLockContent → Option ScrubCode
+early_code declared fields locks content =
+    if mixes_form fields content.holder then Some scrub.BadPlace else (
+    if has_lock locks content.name || is_root content.name then Some scrub.NameUsedTwice else
+    by_kind fields content.holder (region_kind declared content.region))
+
+-- one of the two regions is under the other
+abbrev pub Overlap : List RegionDecl → List ℕ → List ℕ → Type 0
+Overlap declared a b =
+    (x : ℕ) × (y : ℕ) × (number_of declared a ≡ Some x) × (number_of declared b ≡ Some y)
+    × (IsUnder (parents_of declared) x y ⊎ IsUnder (parents_of declared) y x)
+
+-- the region overlaps that of one of the locks
+abbrev pub OverlapsAny : List RegionDecl → List ℕ → List Lock → Type 0
+OverlapsAny declared region [] = ⊥
+OverlapsAny declared region (l ∷ ls) = Overlap declared region l.region ⊎ OverlapsAny declared region ls
+
+-- with no earlier code: set aside exactly where the region overlaps that of a lock that stands
+abbrev pub IsLateCode : List RegionDecl → List Lock → RegionLockContent → Option ScrubCode → Option ScrubCode → Type 0
+IsLateCode declared locks content (Some early) code = code ≡ Some early
+IsLateCode declared locks content None (Some late) = (late ≡ scrub.OverlappingRegions) × OverlapsAny declared content.region locks
+IsLateCode declared locks content None None = OverlapsAny declared content.region locks → ⊥
+
+-- the code of a RegionLock after these locks stand, or none where it stands too
+abbrev pub IsLockCode : List RegionDecl → List FieldFace → List Lock → RegionLockContent → Option ScrubCode → Type 0
+IsLockCode declared fields locks content code = IsLateCode declared locks content (early_code declared fields locks content) code
+
+-- the lock that stands
+abbrev pub lock_of : List FieldFace → RegionLockContent → Lock
+lock_of fields content = record { name = content.name; is_static = is_static_lock fields content.holder; region = content.region }
+
+abbrev pub lock_in : PromiseTree-F PromiseTree → Option RegionLockContent
+lock_in (PromiseTree-F.RegionLock content) = Some content
+lock_in _ = None
+
+-- the lock that an annotation with no code yet gives
+abbrev pub lock_by : Option ScrubCode → Option PromiseTree → Option RegionLockContent
+lock_by None (Some tree) = lock_in (out-PromiseTree tree)
+lock_by _ _ = None
+
+abbrev pub locks_with : List FieldFace → List Lock → RegionLockContent → Option ScrubCode → List Lock
+locks_with fields locks content None = locks ++ lock_of fields content ∷ []
+locks_with fields locks content (Some code) = locks
+
+-- One annotation of a header: its code and the locks that stand after it.
+abbrev pub LockStep : List RegionDecl → List FieldFace → Option RegionLockContent → List Lock → Option ScrubCode → List Lock → Option ScrubCode → Type 0
+LockStep declared fields None locks before locks_after after = (locks_after ≡ locks) × (after ≡ before)
+LockStep declared fields (Some content) locks before locks_after after =
+    IsLockCode declared fields locks content after × (locks_after ≡ locks_with fields locks content after)
+
+-- the annotations of a header with their codes, one after another
+abbrev pub LockSteps : List RegionDecl → List FieldFace → List Mark → List (Option ScrubCode) → List Lock → List Lock → List (Option ScrubCode) → Type 0
+LockSteps declared fields [] before locks last after = (last ≡ locks) × (after ≡ [])
+LockSteps declared fields (m ∷ ms) [] locks last after = ⊥
+LockSteps declared fields (m ∷ ms) (c ∷ cs) locks last after =
+    (code : Option ScrubCode) × (next : List Lock) × (rest : List (Option ScrubCode))
+    × LockStep declared fields (lock_by c m.tree) locks c next code × LockSteps declared fields ms cs next last rest × (after ≡ code ∷ rest)

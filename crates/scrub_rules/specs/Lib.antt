@@ -1,0 +1,5 @@
+pub mod Code
+pub mod Detail
+pub mod Place
+pub mod Scope
+pub mod Target
