@@ -1,9 +1,8 @@
-pub mod Turned
-pub mod Token
-pub mod Loops
-pub mod Phrases
-pub mod Sound
-pub mod Complete
-pub mod FormLemmas
-pub mod ReaderLemmas
-pub mod Parts
+pub mod Fronts
+pub mod Shorter
+pub mod Unique
+pub mod Drafted
+pub mod Spelled
+pub mod Causes
+pub mod Order
+pub mod Advanced

@@ -1,8 +1,6 @@
-pub mod Phrase
 pub mod Spelling
-pub mod Reading
-pub mod Cursor
-pub mod FirstForm
-pub mod Names
+pub mod Parts
 pub mod Reads
 pub mod Places
+pub mod Drafts
+pub mod Answers

@@ -1,17 +1,15 @@
-//! Reading a Java file of the form: which tokens spell which tree, and the reader for it. It knows
-//! nothing of findings or verdicts, nor of bundles.
+//! Reading whole Java files of the subset: which tokens spell which file, the reader for it, and the exact
+//! place of each refusal. It is the public face of reading, and knows nothing of names and types.
 #![tactic(auto)]
 
+mod draft;
 mod error;
-mod form;
-mod grammar;
+mod file;
 mod laws;
 mod line;
-mod names;
 mod reader;
 #[cfg(test)]
 mod tests;
-mod tokens;
 
 pub use error::ReadError;
 pub use laws::{one_tree, parts_follow};
