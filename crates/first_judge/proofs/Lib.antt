@@ -3,3 +3,4 @@ pub mod RowSteps
 pub mod NamesSeen
 pub mod Members
 pub mod PartSteps
+pub mod CountMore

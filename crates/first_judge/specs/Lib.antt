@@ -4,3 +4,4 @@ pub mod Seen
 pub mod Numbers
 pub mod Project
 pub mod Parts
+pub mod Counts

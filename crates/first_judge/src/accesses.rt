@@ -19,7 +19,7 @@ pub struct Access<'a> {
 }
 
 // The name that an expression is, if it is one.
-fn name_of(value: &Expr) -> Option<&Word>
+pub(crate) fn name_of(value: &Expr) -> Option<&Word>
     ensures { option_copied result ≡ name_of (out-Expr value.now) }
 {
     match value {

@@ -3,6 +3,7 @@
 #![tactic(auto)]
 
 mod accesses;
+mod counting;
 mod judging;
 mod lines;
 mod project;
@@ -11,6 +12,7 @@ mod rows;
 mod tests;
 
 pub use accesses::Access;
+pub use counting::count_findings;
 pub use lines::LineCursor;
 pub use project::{ClassFile, judge_files};
 pub use rows::UnitRows;
