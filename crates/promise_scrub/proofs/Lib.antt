@@ -2,3 +2,5 @@ pub mod Overlapping
 pub mod Stepping
 pub mod Gathering
 pub mod Facing
+pub mod Single
+pub mod SeenAlike

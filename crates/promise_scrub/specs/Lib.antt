@@ -1,3 +1,4 @@
+pub mod Alike
 pub mod Judging
 pub mod Locks
 pub mod Members

@@ -11,6 +11,7 @@ mod found;
 mod gather;
 mod judge;
 mod kinds;
+mod laws;
 mod lock;
 mod locks;
 mod member;
@@ -22,6 +23,7 @@ mod unit;
 
 pub use class_faces::{FaceTy, FieldFace, MemberFace, ParamFace};
 pub use context::Context;
+pub use laws::{one_surface, surfaces_alike};
 pub use lock::Lock;
 pub use locks::{HeaderLocks, scrub_locks};
 pub use member::Scoped;
