@@ -1,5 +1,5 @@
 -- Classes that others see alike have one surface.
-use Rattle.std.proofs.Common.{◌≡◌, ℕ, zero, suc, ◌+◌, List, [], ◌∷◌, ◌++◌, length, map, refl, sym, ◌∙◌, ap, subst, Bool, true, false, ◌&&◌, not, cond}
+use Rattle.std.proofs.Common.{◌≡◌, ℕ, zero, suc, ◌+◌, List, [], ◌∷◌, ◌++◌, length, map, refl, ◌∙◌, ap, subst, Bool, true, false, ◌&&◌, not, cond}
 use Rattle.std.specs.Prelude.{Option, Some, None, fold, codes}
 use Rattle.std.specs.List.{slice_get}
 use Rattle.std.specs.Option.{option_map, option_to_list, is_some}
@@ -12,10 +12,7 @@ use Rattle.java_tree.specs.declared.member.Ty.TheVariants as ty
 use Rattle.java_tree.specs.declared.member.Param.{Param}
 use Rattle.java_tree.specs.declared.member.MemberTree.{MemberTree}
 use Rattle.java_tree.specs.declared.member.MemberTree.TheVariants as member
-use Rattle.class_faces.specs.declared.face.FaceTy.{FaceTy}
 use Rattle.class_faces.specs.declared.face.FieldFace.{FieldFace}
-use Rattle.class_faces.specs.declared.face.ParamFace.{ParamFace}
-use Rattle.class_faces.specs.declared.face.MemberFace.{MemberFace}
 use Rattle.class_faces.specs.Assigned.{Names, is_among, block_names}
 use Rattle.class_faces.specs.Faces.{face_ty, is_static, is_final, is_fresh, is_object, field_of, fields_of, field_faces, param_face, face_of, faces_after, member_faces, named_params}
 use Rattle.class_faces.specs.Keys.{text_of, counted, slot_of, short_key, repeat_mark, key_with, times, keys_after, member_keys}
@@ -36,12 +33,10 @@ use Rattle.scrub_rules.specs.Place.{header_site, sort_of, made, member_site, par
 use Rattle.scrub_rules.specs.Scope.{matches, is_nil, selects}
 use Rattle.scrub_rules.specs.Target.{Kinds}
 use Rattle.promise_scrub.specs.declared.found.Found.{Found}
-use Rattle.promise_scrub.specs.declared.lock.Lock.{Lock}
 use Rattle.promise_scrub.specs.declared.member.Scoped.{Scoped}
-use Rattle.promise_scrub.specs.declared.surface.Assumption.{Assumption}
 use Rattle.promise_scrub.specs.declared.surface.Surface.{Surface as Face}
 use Rattle.promise_scrub.specs.declared.unit.Unit.{Unit as Target}
-use Rattle.promise_scrub.specs.Alike.{SamePromises, SameTargets, AlikeParam, AlikeParams, AlikeMember, AllAlike, Alike}
+use Rattle.promise_scrub.specs.Alike.{AlikeParam, AlikeParams, AlikeMember, AllAlike, Alike}
 use Rattle.promise_scrub.specs.Judging.{Facts, field_static, judged}
 use Rattle.promise_scrub.specs.Locks.{region_kind}
 use Rattle.promise_scrub.specs.Members.{judge_tree, judge_mark, judge_spread, tree_name, promises_of, scoped_of}
@@ -420,7 +415,7 @@ same_surface a b face alike s = record {
   locks = s.locks;
   codes = s.codes;
   scrubbed =
-      subst (λ (fs : List FieldFace). HeaderScrubbed (header_site b.kind) fs s.header s.regions s.locks s.codes) (all_fields a.members b.members alike.members)
-      (subst (λ (k : TypeKind). HeaderScrubbed (header_site k) (field_faces a) s.header s.regions s.locks s.codes) alike.kind s.scrubbed);
+    subst (λ (fs : List FieldFace). HeaderScrubbed (header_site b.kind) fs s.header s.regions s.locks s.codes) (all_fields a.members b.members alike.members)
+    (subst (λ (k : TypeKind). HeaderScrubbed (header_site k) (field_faces a) s.header s.regions s.locks s.codes) alike.kind s.scrubbed);
   is = s.is ∙ face_alike a b s.header s.members s.regions (region_kind s.regions) (lock_kind s.locks) s.codes alike;
 }

@@ -1,10 +1,9 @@
 -- A class has one surface: each part is settled by the one before it.
-use Rattle.std.proofs.Common.{◌≡◌, ℕ, zero, suc, ◌+◌, ◌<◌, ◌≤◌, ◌⊎◌, inl, inr, List, [], ◌∷◌, length, refl, sym, ◌∙◌, ap, subst, Bool, arith}
+use Rattle.std.proofs.Common.{◌≡◌, ℕ, zero, suc, ◌<◌, ◌⊎◌, inl, inr, List, [], ◌∷◌, length, refl, sym, ◌∙◌, ap, subst, arith}
 use Rattle.std.specs.Prelude.{Option, Some, None, remove, slice_set}
 use Rattle.std.specs.List.{slice_get}
 use Rattle.java_tree.specs.declared.file.ClassTree.{ClassTree}
 use Rattle.java_tree.specs.declared.member.MemberTree.{MemberTree}
-use Rattle.class_faces.specs.declared.face.FieldFace.{FieldFace}
 use Rattle.class_faces.specs.Faces.{field_faces}
 use Rattle.promise_grammar.specs.declared.kind.PromiseKind.{PromiseKind}
 use Rattle.promise_grammar.specs.declared.lock.RegionLockContent.{RegionLockContent}
@@ -18,10 +17,11 @@ use Rattle.region_tree.specs.declared.fault.RegionError.TheVariants as fault
 use Rattle.region_tree.specs.Faults.{AllGood, IsGood, DeclFault, FirstDeclFault, IsFault}
 use Rattle.scrub_rules.specs.declared.code.ScrubCode.{ScrubCode}
 use Rattle.scrub_rules.specs.Place.{header_site}
+use Rattle.scrub_rules.specs.Target.{Kinds}
 use Rattle.promise_scrub.specs.declared.lock.Lock.{Lock}
 use Rattle.promise_scrub.specs.declared.surface.Surface.{Surface as Face}
-use Rattle.promise_scrub.specs.Locks.{IsLateCode, LockStep, LockSteps, early_code, locks_with, lock_by, region_kind}
-use Rattle.promise_scrub.specs.Regions.{SetsAside, ScrubsIn, Scrubs, named, fault_code, decls_of, places_from, first_codes}
+use Rattle.promise_scrub.specs.Locks.{Fields, IsLateCode, LockStep, LockSteps, early_code, fields_by, locks_with, lock_by, region_kind}
+use Rattle.promise_scrub.specs.Regions.{ScrubsIn, named, fault_code, decls_of, places_from, first_codes}
 use Rattle.promise_scrub.specs.Surfaces.{AreMemberMarks, HeaderScrubbed, Surface, face_with, lock_kind}
 
 -- ---- the annotations
@@ -123,9 +123,9 @@ fault_same ds a b at bt f g p q = go (first_fault ds a at f p) (first_fault ds b
           | inr more ↦ elim more as (λ _. a ≡ b) [
             | inl gt ↦ absurd (is_bad ds j e b bt fj q (good_i j e gt get_e))
             | inr same ↦
-                let there : slice_get ds i ≡ Some e = subst (λ (x : ℕ). slice_get ds x ≡ Some e) (sym same) get_e in
-                let one : e ≡ d = cc in
-                one_fault ds i d a b at bt fi (subst (λ (x : RegionDecl). DeclFault ds i x b) one (subst (λ (x : ℕ). DeclFault ds x e b) (sym same) fj)) p q
+              let there : slice_get ds i ≡ Some e = subst (λ (x : ℕ). slice_get ds x ≡ Some e) (sym same) get_e in
+              let one : e ≡ d = cc in
+              one_fault ds i d a b at bt fi (subst (λ (x : RegionDecl). DeclFault ds i x b) one (subst (λ (x : ℕ). DeclFault ds x e b) (sym same) fj)) p q
           ]
         ]
 
@@ -173,22 +173,22 @@ code_same declared locks content None (Some x) None f g = absurd (g f.1)
 code_same declared locks content None None (Some y) f g = absurd (f g.1)
 code_same declared locks content None None None f g = refl
 
-step_same : (declared : List RegionDecl) (fields : List FieldFace) (o : Option RegionLockContent) (locks : List Lock) (before : Option ScrubCode)
-    (next next' : List Lock) (code code' : Option ScrubCode) → LockStep declared fields o locks before next code → LockStep declared fields o locks before next' code'
+step_same : (declared : List RegionDecl) (kinds : Kinds) (fields : Fields) (o : Option RegionLockContent) (locks : List Lock) (before : Option ScrubCode)
+    (next next' : List Lock) (code code' : Option ScrubCode) → LockStep declared kinds fields o locks before next code → LockStep declared kinds fields o locks before next' code'
     → (next ≡ next') × (code ≡ code')
-step_same declared fields None locks before next next' code code' s t = (s.0 ∙ sym t.0, s.1 ∙ sym t.1)
-step_same declared fields (Some content) locks before next next' code code' s t =
-    let same : code ≡ code' = code_same declared locks content (early_code declared fields locks content) code code' s.0 t.0 in
+step_same declared kinds fields None locks before next next' code code' s t = (s.0 ∙ sym t.0, s.1 ∙ sym t.1)
+step_same declared kinds fields (Some content) locks before next next' code code' s t =
+    let same : code ≡ code' = code_same declared locks content (early_code kinds fields locks content) code code' s.0 t.0 in
     (s.1 ∙ ap (λ (c : Option ScrubCode). locks_with fields locks content c) same ∙ sym t.1, same)
 
-steps_same : (declared : List RegionDecl) (fields : List FieldFace) (ms : List Mark) (cs : List (Option ScrubCode)) (locks last last' : List Lock) (after after' : List (Option ScrubCode))
-    → LockSteps declared fields ms cs locks last after → LockSteps declared fields ms cs locks last' after' → (last ≡ last') × (after ≡ after')
-steps_same declared fields [] cs locks last last' after after' s t = (s.0 ∙ sym t.0, s.1 ∙ sym t.1)
-steps_same declared fields (m ∷ ms) [] locks last last' after after' s t = absurd s
-steps_same declared fields (m ∷ ms) (c ∷ cs) locks last last' after after' (code, next, rest, step, steps, is) (code', next', rest', step', steps', is') =
-    let one = step_same declared fields (lock_by c m.tree) locks c next next' code code' step step' in
-    let others = steps_same declared fields ms cs next last last' rest rest' steps
-    (subst (λ (x : List Lock). LockSteps declared fields ms cs x last' rest') (sym one.0) steps') in
+steps_same : (declared : List RegionDecl) (kinds : Kinds) (fields : Fields) (ms : List Mark) (cs : List (Option ScrubCode)) (locks last last' : List Lock) (after after' : List (Option ScrubCode))
+    → LockSteps declared kinds fields ms cs locks last after → LockSteps declared kinds fields ms cs locks last' after' → (last ≡ last') × (after ≡ after')
+steps_same declared kinds fields [] cs locks last last' after after' s t = (s.0 ∙ sym t.0, s.1 ∙ sym t.1)
+steps_same declared kinds fields (m ∷ ms) [] locks last last' after after' s t = absurd s
+steps_same declared kinds fields (m ∷ ms) (c ∷ cs) locks last last' after after' (code, next, rest, step, steps, is) (code', next', rest', step', steps', is') =
+    let one = step_same declared kinds fields (lock_by c m.tree) locks c next next' code code' step step' in
+    let others = steps_same declared kinds fields ms cs next last last' rest rest' steps
+    (subst (λ (x : List Lock). LockSteps declared kinds fields ms cs x last' rest') (sym one.0) steps') in
     (others.0, is ∙ ap (λ (x : Option ScrubCode). x ∷ rest) one.1 ∙ ap (λ (x : List (Option ScrubCode)). code' ∷ x) others.1 ∙ sym is')
 
 -- ---- the surface
@@ -211,7 +211,7 @@ one_face class a b s t =
     scrubbed header regions regions' locks locks' codes codes' (between, s1, l1) (between', s2, l2) =
         let r = scrubs_same s1.0 s2.0 (decls_of (header_site class.kind) header) (places_from (header_site class.kind) 0 header)
         (first_codes (header_site class.kind) header) regions regions' between between' s1.1 s2.1 in
-        let l = steps_same regions (field_faces class) header between [] locks locks' codes codes' l1
-        (subst (λ (x : List (Option ScrubCode)). LockSteps regions (field_faces class) header x [] locks' codes') (sym r.1)
-        (subst (λ (x : List RegionDecl). LockSteps x (field_faces class) header between' [] locks' codes') (sym r.0) l2)) in
+        let l = steps_same regions (region_kind regions) (fields_by (field_faces class)) header between [] locks locks' codes codes' l1
+        (subst (λ (x : List (Option ScrubCode)). LockSteps regions (region_kind regions) (fields_by (field_faces class)) header x [] locks' codes') (sym r.1)
+        (subst (λ (x : List RegionDecl). LockSteps x (region_kind x) (fields_by (field_faces class)) header between' [] locks' codes') (sym r.0) l2)) in
         (r.0, l.0, l.1)

@@ -4,4 +4,5 @@ pub mod Locks
 pub mod Members
 pub mod Regions
 pub mod Surfaces
+pub mod Texts
 pub mod Units
