@@ -16,9 +16,10 @@ use Rattle.promise_marks.specs.declared.mark.Mark.{Mark}
 use Rattle.promise_marks.specs.Given.{by_member}
 use Rattle.promise_marks.specs.Marks.{AreMarks}
 use Rattle.scrub_rules.specs.declared.code.ScrubCode.{ScrubCode}
-use Rattle.scrub_rules.specs.Target.{kinds_in}
+use Rattle.scrub_rules.specs.Target.{Kinds, kinds_in}
 use Rattle.promise_scrub.specs.declared.lock.Lock.{Lock}
-use Rattle.promise_scrub.specs.Locks.{LockSteps, declared_kind, region_kind}
+use Rattle.promise_scrub.specs.declared.lock.LockField.{LockField}
+use Rattle.promise_scrub.specs.Locks.{Fields, HasFields, LockSteps, declared_kind, fields_by, fields_in, region_kind}
 use Rattle.class_faces.specs.declared.face.FieldFace.{FieldFace}
 use Rattle.scrub_rules.specs.declared.place.Site.{Site}
 use Rattle.scrub_rules.specs.Place.{first_code}
@@ -160,11 +161,17 @@ scrubs_at ds ds' ps ps' cs cs' left after same_ds same_ps same_cs s =
     (subst (λ (z : List ℕ). Scrubs ds z cs' left after) same_ps
     (subst (λ (z : List (Option ScrubCode)). Scrubs ds ps z left after) same_cs s))
 
-pub steps_at : (rs rs' : List RegionDecl) (fields : List FieldFace) (marks : List Mark) (cs cs' : List (Option ScrubCode)) (locks : List Lock) (after : List (Option ScrubCode))
-    → rs ≡ rs' → cs ≡ cs' → LockSteps rs fields marks cs [] locks after → LockSteps rs' fields marks cs' [] locks after
-steps_at rs rs' fields marks cs cs' locks after same_rs same_cs s =
-    subst (λ (z : List RegionDecl). LockSteps z fields marks cs' [] locks after) same_rs
-    (subst (λ (z : List (Option ScrubCode)). LockSteps rs fields marks z [] locks after) same_cs s)
+pub steps_at : (rs rs' ks : List RegionDecl) (kinds : BTreeMap (List ℕ) Bool) (known : BTreeMap (List ℕ) LockField) (fields : List FieldFace)
+    (marks : List Mark) (cs cs' : List (Option ScrubCode)) (locks : List Lock) (after : List (Option ScrubCode))
+    → rs ≡ rs' → ks ≡ rs' → cs ≡ cs' → HasKinds kinds (region_kind ks) → HasFields known fields
+    → LockSteps rs (kinds_in kinds) (fields_in known) marks cs [] locks after → LockSteps rs' (region_kind rs') (fields_by fields) marks cs' [] locks after
+steps_at rs rs' ks kinds known fields marks cs cs' locks after same_rs same_ks same_cs has_kinds has_fields s =
+    let k : kinds_in kinds ≡ region_kind rs' = (λ i name. has_kinds.has name i) ∙ ap (λ (z : List RegionDecl). region_kind z) same_ks in
+    let f : fields_in known ≡ fields_by fields = λ i name. has_fields.has name i in
+    subst (λ (z : List RegionDecl). LockSteps z (region_kind rs') (fields_by fields) marks cs' [] locks after) same_rs
+    (subst (λ (z : Kinds). LockSteps rs z (fields_by fields) marks cs' [] locks after) k
+    (subst (λ (z : Fields). LockSteps rs (kinds_in kinds) z marks cs' [] locks after) f
+    (subst (λ (z : List (Option ScrubCode)). LockSteps rs (kinds_in kinds) (fields_in known) marks z [] locks after) same_cs s)))
 
 -- the codes are as many as the annotations
 pub codes_fit : (site : Site) (marks : List Mark) (cs cs' after : List (Option ScrubCode)) (ds : List RegionDecl) (ps : List ℕ) (left : List RegionDecl)

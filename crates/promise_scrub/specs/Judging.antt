@@ -17,7 +17,8 @@ use Rattle.scrub_rules.specs.Code.{least}
 use Rattle.scrub_rules.specs.Detail.{claims_of, lock_detail, labelled}
 use Rattle.scrub_rules.specs.Place.{place_code}
 use Rattle.scrub_rules.specs.Target.{Kinds, kinds_in, locks_code, effects_code, in_region_code}
-use Rattle.promise_scrub.specs.Units.{is_among, claim_text, put_aside, put_claims}
+use Rattle.promise_scrub.specs.Texts.{is_among}
+use Rattle.promise_scrub.specs.Units.{claim_text, put_aside, put_claims}
 use Rattle.promise_scrub.specs.declared.unit.Unit.{Unit as Target}
 use Rattle.promise_scrub.specs.declared.context.Context.{Context}
 

@@ -30,7 +30,7 @@ use Rattle.std.specs.Option.{option_or}
 use Rattle.std.specs.BTreeMap.{BTreeMap}
 use Rattle.scrub_rules.specs.Target.{Kinds, kinds_in}
 use Rattle.promise_scrub.specs.Judging.{Facts, field_static, is_vouch}
-use Rattle.promise_scrub.specs.Locks.{LockSteps, region_kind}
+use Rattle.promise_scrub.specs.Locks.{LockSteps, region_kind, fields_by}
 use Rattle.promise_scrub.specs.Members.{promises_of, scoped_of}
 use Rattle.promise_scrub.specs.Regions.{Scrubs, decls_of, places_from, first_codes}
 use Rattle.promise_scrub.specs.Units.{put_aside, put_claims, no_promises}
@@ -189,7 +189,7 @@ face_with class header members regions region_kinds lock_kinds codes =
 abbrev pub HeaderScrubbed : Site → List FieldFace → List Mark → List RegionDecl → List Lock → List (Option ScrubCode) → Type 0
 HeaderScrubbed site fields header regions locks codes =
     (between : List (Option ScrubCode)) × Scrubs (decls_of site header) (places_from site 0 header) (first_codes site header) regions between
-    × LockSteps regions fields header between [] locks codes
+    × LockSteps regions (region_kind regions) (fields_by fields) header between [] locks codes
 
 -- Surface: the annotations are read from the class's tree, the regions are scrubbed, then the locks, and
 -- then the rest.

@@ -1,20 +1,15 @@
 -- The promises of one unit, as its annotations are judged one by one.
 use Rattle.std.specs.Prelude.{ℕ, ◌+◌, Bool, false, ◌||◌, List, [], ◌∷◌, ◌++◌, Option, Some, None, fold, codes, decimal, if◌then◌else◌}
-use Rattle.std.specs.List.{list_any}
-use Rattle.std.specs.Str.{bytes_eq}
 use Rattle.desk_base.specs.declared.key.PromiseName.{PromiseName}
 use Rattle.promise_grammar.specs.declared.tree.PromiseTree.{PromiseTree}
 use Rattle.class_faces.specs.Keys.{text_of}
 use Rattle.scrub_rules.specs.declared.code.ScrubCode.{ScrubCode}
 use Rattle.scrub_rules.specs.declared.detail.Claim.{Claim}
 use Rattle.scrub_rules.specs.Detail.{labelled, flat}
+use Rattle.promise_scrub.specs.Texts.{is_among}
 use Rattle.promise_scrub.specs.declared.surface.Standing.{Standing}
 use Rattle.promise_scrub.specs.declared.surface.Aside.{Aside}
 use Rattle.promise_scrub.specs.declared.unit.Unit.{Unit as Target}
-
--- the text is among these
-abbrev pub is_among : List ℕ → List (List ℕ) → Bool
-is_among text texts = list_any (λ t. bytes_eq t text) texts
 
 -- a target without promises
 abbrev pub no_promises : Target

@@ -10,13 +10,6 @@ use promise_grammar::PromiseTree;
 use scrub_rules::{Claim, ScrubCode, copied, labelled};
 use std::alloc::Global;
 
-/// Whether the text is among these.
-pub(crate) fn is_among(text: &[u8], texts: &[Bytes]) -> bool
-    ensures { result ≡ spec.is_among text.now texts.now }
-{
-    texts.iter().any(|t| t.as_slice() == text)
-}
-
 fn aside_detail(alloc: Global, number: usize) -> Result<Text, OutOfMemory>
     ensures { IfOk result (λ text. text ≡ spec.aside_detail number) }
 {

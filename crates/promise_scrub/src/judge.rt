@@ -3,8 +3,9 @@ ghost use Rattle.promise_grammar.specs.declared.tree.PromiseTree.{out-PromiseTre
 ghost use Rattle.promise_scrub.specs.Judging as spec;
 ghost use Rattle.promise_scrub.specs.Judging.{facts_of};
 
-use crate::claims::{claim_text, is_among};
+use crate::claims::claim_text;
 use crate::context::Context;
+use crate::texts::Texts;
 use crate::unit::Unit;
 use desk_base::{Bytes, Items, OutOfMemory, PromiseName};
 use promise_grammar::{LockItem, PromiseTree};
@@ -15,10 +16,10 @@ use scrub_rules::{
 use std::alloc::Global;
 
 // A scoped promise gives nothing that the member has itself.
-fn goes(spread: bool, own: &[Bytes], text: &[u8]) -> bool
+fn goes(spread: bool, own: &Texts, text: &Bytes) -> bool
     ensures { result ≡ spec.goes spread own.now text.now }
 {
-    spread && is_among(text, own)
+    spread && own.has(text)
 }
 
 fn copied_claim(claim: &Claim) -> Result<Claim, OutOfMemory>
@@ -34,7 +35,7 @@ fn copied_claim(claim: &Claim) -> Result<Claim, OutOfMemory>
 fn kept_claims(
     alloc: Global,
     spread: bool,
-    own: &[Bytes],
+    own: &Texts,
     claims: &[Claim],
 ) -> Result<Items<Claim>, OutOfMemory>
     ensures { IfOk result (λ kept. kept ≡ spec.kept_claims spread own.now claims.now) }
@@ -42,7 +43,7 @@ fn kept_claims(
     let mut kept = Items::new(alloc);
     for claim in claims {
         let text = claim_text(alloc, claim)?;
-        if !goes(spread, own, text.as_slice()) {
+        if !goes(spread, own, &text) {
             kept.push(copied_claim(claim)?)?;
         }
     }
@@ -53,7 +54,7 @@ fn kept_items(
     alloc: Global,
     at: &Context<'_>,
     spread: bool,
-    own: &[Bytes],
+    own: &Texts,
     items: &[LockItem],
 ) -> Result<Items<LockItem>, OutOfMemory>
     ensures { IfOk result (λ kept. kept ≡ spec.kept_items (facts_of at.now) spread own.now items.now) }
@@ -62,7 +63,7 @@ fn kept_items(
     for item in items {
         let detail = lock_detail(alloc, at.locks, at.class, item)?;
         let text = labelled(alloc, PromiseName::RequiresLock, detail.as_slice())?;
-        if !goes(spread, own, text.as_slice()) {
+        if !goes(spread, own, &text) {
             kept.push(copied_item(item)?)?;
         }
     }
@@ -75,7 +76,7 @@ fn content_code(
     at: &Context<'_>,
     has_this: bool,
     spread: bool,
-    own: &[Bytes],
+    own: &Texts,
     tree: &PromiseTree,
 ) -> Result<Option<ScrubCode>, OutOfMemory>
     ensures { IfOk result (λ code. code ≡ spec.content_code (facts_of at.now) has_this spread own.now (out-PromiseTree tree.now)) }
@@ -106,13 +107,12 @@ fn content_code(
 }
 
 // Whether one of the claims repeats a tag, or an earlier claim.
-fn repeats(alloc: Global, tags: &[Bytes], claims: &[Claim]) -> Result<bool, OutOfMemory>
+fn repeats(alloc: Global, tags: &Texts, claims: &[Claim]) -> Result<bool, OutOfMemory>
     ensures { IfOk result (λ answer. answer ≡ spec.repeats tags.now [] claims.now) }
 {
-    let mut seen: Items<Bytes> = Items::new(alloc);
+    let mut seen = Texts::new(alloc);
     for claim in claims {
-        let tag = claim.tag.as_slice();
-        if is_among(tag, tags) || is_among(tag, seen.as_slice()) {
+        if tags.has(&claim.tag) || seen.has(&claim.tag) {
             return Ok(true);
         }
         seen.push(claim.tag.clone()?)?;
@@ -122,7 +122,7 @@ fn repeats(alloc: Global, tags: &[Bytes], claims: &[Claim]) -> Result<bool, OutO
 
 fn repeat_code(
     alloc: Global,
-    tags: &[Bytes],
+    tags: &Texts,
     claims: &[Claim],
 ) -> Result<Option<ScrubCode>, OutOfMemory>
     ensures { IfOk result (λ code. code ≡ spec.repeat_code tags.now claims.now) }
@@ -174,8 +174,8 @@ fn put_judged_with(
     if spread && claims.is_empty() {
         return Ok(());
     }
-    let content = content_code(alloc, at, site.has_this, spread, unit.own.as_slice(), tree)?;
-    let repeat = repeat_code(alloc, unit.tags.as_slice(), claims.as_slice())?;
+    let content = content_code(alloc, at, site.has_this, spread, &unit.own, tree)?;
+    let repeat = repeat_code(alloc, &unit.tags, claims.as_slice())?;
     let code = least(content, repeat);
     put_by_code(alloc, at, spread, name, tree, claims.as_slice(), code, unit)
 }
@@ -198,6 +198,6 @@ pub(crate) fn put_judged(
         return unit.put_aside(alloc, at.key, name, code);
     }
     let claims = claims_of(alloc, at.locks, at.class, site.kind, param, tree)?;
-    let kept = kept_claims(alloc, spread, unit.own.as_slice(), claims.as_slice())?;
+    let kept = kept_claims(alloc, spread, &unit.own, claims.as_slice())?;
     put_judged_with(alloc, at, site, spread, name, tree, &kept, unit)
 }

@@ -7,3 +7,10 @@ pub struct Lock {
     pub is_static: bool,
     pub region: Name,
 }
+
+/// What a lock asks of the field that it is held by.
+#[derive(Clone, Copy, Debug)]
+pub struct LockField {
+    pub is_static: bool,
+    pub lock_form: bool,
+}

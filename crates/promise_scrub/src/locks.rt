@@ -3,53 +3,35 @@ ghost use Rattle.std.specs.Option.{option_copied};
 ghost use Rattle.promise_grammar.specs.declared.tree.PromiseTree.{out-PromiseTree};
 ghost use Rattle.region_tree.specs.Regions.{number_of, parents_of};
 ghost use Rattle.region_tree.specs.Tree.{parents_in, region_in as region_at};
+ghost use Rattle.scrub_rules.specs.Target.{kinds_in};
 ghost use Rattle.promise_scrub.specs.Locks as spec;
-ghost use Rattle.promise_scrub.specs.Locks.{IsLockCode, IsLateCode, LockStep, LockSteps, Overlap, OverlapsAny};
+ghost use Rattle.promise_scrub.specs.Locks.{fields_in, IsLockCode, IsLateCode, LockStep, LockSteps, Overlap, OverlapsAny};
 
-use crate::lock::Lock;
+use crate::lock::{Lock, LockField};
 use crate::regions::is_root;
-use class_faces::FieldFace;
+use crate::table::LockTable;
 use desk_base::{Items, Name, OutOfMemory};
 use promise_grammar::{LockHolder, PromiseTree, RegionLockContent};
 use promise_marks::Mark;
 use region_tree::{RegionDecl, RegionTree};
 use scrub_rules::ScrubCode;
 use std::alloc::Global;
+use std::collections::BTreeMap;
 
-fn declared_kind(declared: &[RegionDecl], name: &Name) -> Option<bool>
-    ensures { result ≡ spec.declared_kind declared.now name.now }
+fn kind_in(kinds: &BTreeMap<Name, bool>, name: &Name) -> Option<bool>
+    ensures { result ≡ kinds_in kinds.now name.now }
 {
-    for decl in declared {
-        if decl.name.as_slice() == name.as_slice() {
-            return Some(decl.is_static);
-        }
-    }
-    None
+    kinds.get(name).copied()
 }
 
-// Whether the region of a name is static, where there is one.
-fn region_kind(declared: &[RegionDecl], name: &Name) -> Option<bool>
-    ensures { result ≡ spec.region_kind declared.now name.now }
+fn field_in(fields: &BTreeMap<Name, LockField>, name: &Name) -> Option<LockField>
+    ensures { result ≡ fields_in fields.now name.now }
 {
-    if name.as_slice() == b"Instance".as_slice() {
-        return Some(false);
-    }
-    if name.as_slice() == b"Static".as_slice() {
-        return Some(true);
-    }
-    declared_kind(declared, name)
+    fields.get(name).copied()
 }
 
-fn field_named<'a>(fields: &'a [FieldFace], name: &Name) -> Option<&'a FieldFace>
-    ensures { option_copied result ≡ spec.field_named fields.now name.now }
-{
-    fields
-        .iter()
-        .find(|field| field.name.as_slice() == name.as_slice())
-}
-
-fn is_static_field(field: Option<&FieldFace>) -> bool
-    ensures { result ≡ spec.is_static_field (option_copied field.entry) }
+fn is_static_field(field: Option<LockField>) -> bool
+    ensures { result ≡ spec.is_static_field field }
 {
     match field {
         None => false,
@@ -57,8 +39,8 @@ fn is_static_field(field: Option<&FieldFace>) -> bool
     }
 }
 
-fn is_instance_field(field: Option<&FieldFace>) -> bool
-    ensures { result ≡ spec.is_instance_field (option_copied field.entry) }
+fn is_instance_field(field: Option<LockField>) -> bool
+    ensures { result ≡ spec.is_instance_field field }
 {
     match field {
         None => false,
@@ -66,8 +48,8 @@ fn is_instance_field(field: Option<&FieldFace>) -> bool
     }
 }
 
-fn has_lock_form(field: Option<&FieldFace>) -> bool
-    ensures { result ≡ spec.has_lock_form (option_copied field.entry) }
+fn has_lock_form(field: Option<LockField>) -> bool
+    ensures { result ≡ spec.has_lock_form field }
 {
     match field {
         None => false,
@@ -75,58 +57,54 @@ fn has_lock_form(field: Option<&FieldFace>) -> bool
     }
 }
 
-fn is_static_lock(fields: &[FieldFace], holder: &LockHolder) -> bool
-    ensures { result ≡ spec.is_static_lock fields.now holder.now }
+fn is_static_lock(fields: &BTreeMap<Name, LockField>, holder: &LockHolder) -> bool
+    ensures { result ≡ spec.is_static_lock (fields_in fields.now) holder.now }
 {
     match holder {
         LockHolder::This => false,
         LockHolder::Class => true,
-        LockHolder::Field(name) => is_static_field(field_named(fields, name)),
-        LockHolder::ThisField(name) => is_static_field(field_named(fields, name)),
+        LockHolder::Field(name) => is_static_field(field_in(fields, name)),
+        LockHolder::ThisField(name) => is_static_field(field_in(fields, name)),
     }
 }
 
-fn is_instance_lock(fields: &[FieldFace], holder: &LockHolder) -> bool
-    ensures { result ≡ spec.is_instance_lock fields.now holder.now }
+fn is_instance_lock(fields: &BTreeMap<Name, LockField>, holder: &LockHolder) -> bool
+    ensures { result ≡ spec.is_instance_lock (fields_in fields.now) holder.now }
 {
     match holder {
         LockHolder::This => true,
         LockHolder::Class => false,
-        LockHolder::Field(name) => is_instance_field(field_named(fields, name)),
-        LockHolder::ThisField(name) => is_instance_field(field_named(fields, name)),
+        LockHolder::Field(name) => is_instance_field(field_in(fields, name)),
+        LockHolder::ThisField(name) => is_instance_field(field_in(fields, name)),
     }
 }
 
-fn mixes_form(fields: &[FieldFace], holder: &LockHolder) -> bool
-    ensures { result ≡ spec.mixes_form fields.now holder.now }
+fn mixes_form(fields: &BTreeMap<Name, LockField>, holder: &LockHolder) -> bool
+    ensures { result ≡ spec.mixes_form (fields_in fields.now) holder.now }
 {
     match holder {
-        LockHolder::ThisField(name) => is_static_field(field_named(fields, name)),
+        LockHolder::ThisField(name) => is_static_field(field_in(fields, name)),
         _ => false,
     }
 }
 
-fn fits_lock(fields: &[FieldFace], holder: &LockHolder) -> bool
-    ensures { result ≡ spec.fits_lock fields.now holder.now }
+fn fits_lock(fields: &BTreeMap<Name, LockField>, holder: &LockHolder) -> bool
+    ensures { result ≡ spec.fits_lock (fields_in fields.now) holder.now }
 {
     match holder {
         LockHolder::This => true,
         LockHolder::Class => true,
-        LockHolder::Field(name) => has_lock_form(field_named(fields, name)),
-        LockHolder::ThisField(name) => has_lock_form(field_named(fields, name)),
+        LockHolder::Field(name) => has_lock_form(field_in(fields, name)),
+        LockHolder::ThisField(name) => has_lock_form(field_in(fields, name)),
     }
 }
 
-fn has_lock(locks: &[Lock], name: &Name) -> bool
-    ensures { result ≡ spec.has_lock locks.now name.now }
-{
-    locks
-        .iter()
-        .any(|lock| lock.name.as_slice() == name.as_slice())
-}
-
-fn by_kind(fields: &[FieldFace], holder: &LockHolder, kind: Option<bool>) -> Option<ScrubCode>
-    ensures { result ≡ spec.by_kind fields.now holder.now kind }
+fn by_kind(
+    fields: &BTreeMap<Name, LockField>,
+    holder: &LockHolder,
+    kind: Option<bool>,
+) -> Option<ScrubCode>
+    ensures { result ≡ spec.by_kind (fields_in fields.now) holder.now kind }
 {
     match kind {
         None => Some(ScrubCode::UnknownRegion),
@@ -140,24 +118,20 @@ fn by_kind(fields: &[FieldFace], holder: &LockHolder, kind: Option<bool>) -> Opt
 
 // The first code of a RegionLock but that of overlapping regions.
 fn early_code(
-    declared: &[RegionDecl],
-    fields: &[FieldFace],
-    locks: &[Lock],
+    kinds: &BTreeMap<Name, bool>,
+    fields: &BTreeMap<Name, LockField>,
+    locks: &LockTable,
     content: &RegionLockContent,
 ) -> Option<ScrubCode>
-    ensures { result ≡ spec.early_code declared.now fields.now locks.now content.now }
+    ensures { result ≡ spec.early_code (kinds_in kinds.now) (fields_in fields.now) locks.now content.now }
 {
     if mixes_form(fields, &content.holder) {
         return Some(ScrubCode::BadPlace);
     }
-    if has_lock(locks, &content.name) || is_root(&content.name) {
+    if locks.has(&content.name) || is_root(&content.name) {
         return Some(ScrubCode::NameUsedTwice);
     }
-    by_kind(
-        fields,
-        &content.holder,
-        region_kind(declared, &content.region),
-    )
+    by_kind(fields, &content.holder, kind_in(kinds, &content.region))
 }
 
 // Whether the region of one name is under that of the other, or above it.
@@ -192,27 +166,31 @@ fn overlaps_any(declared: &[RegionDecl], tree: &RegionTree, region: &Name, locks
 fn lock_code(
     declared: &[RegionDecl],
     tree: &RegionTree,
-    fields: &[FieldFace],
-    locks: &[Lock],
+    kinds: &BTreeMap<Name, bool>,
+    fields: &BTreeMap<Name, LockField>,
+    locks: &LockTable,
     content: &RegionLockContent,
 ) -> Option<ScrubCode>
     requires parents { parents_in tree.now ≡ parents_of declared.now }
     requires regions { (name : List ℕ) → region_at tree.now name ≡ number_of declared.now name }
-    ensures { IsLockCode declared.now fields.now locks.now content.now result }
+    ensures { IsLockCode declared.now (kinds_in kinds.now) (fields_in fields.now) locks.now content.now result }
 {
-    let early = early_code(declared, fields, locks, content);
+    let early = early_code(kinds, fields, locks, content);
     if early.is_some() {
         return early;
     }
-    if overlaps_any(declared, tree, &content.region, locks) {
+    if overlaps_any(declared, tree, &content.region, locks.as_slice()) {
         Some(ScrubCode::OverlappingRegions)
     } else {
         None
     }
 }
 
-fn lock_of(fields: &[FieldFace], content: &RegionLockContent) -> Result<Lock, OutOfMemory>
-    ensures { IfOk result (λ lock. lock ≡ spec.lock_of fields.now content.now) }
+fn lock_of(
+    fields: &BTreeMap<Name, LockField>,
+    content: &RegionLockContent,
+) -> Result<Lock, OutOfMemory>
+    ensures { IfOk result (λ lock. lock ≡ spec.lock_of (fields_in fields.now) content.now) }
 {
     Ok(Lock {
         name: content.name.clone()?,
@@ -235,19 +213,20 @@ fn lock_by(before: Option<ScrubCode>, tree: &Option<PromiseTree>) -> Option<&Reg
 fn put_lock(
     declared: &[RegionDecl],
     tree: &RegionTree,
-    fields: &[FieldFace],
+    kinds: &BTreeMap<Name, bool>,
+    fields: &BTreeMap<Name, LockField>,
     before: Option<ScrubCode>,
     mark: &Mark,
-    locks: &mut Items<Lock>,
+    locks: &mut LockTable,
 ) -> Result<Option<ScrubCode>, OutOfMemory>
     requires parents { parents_in tree.now ≡ parents_of declared.now }
     requires regions { (name : List ℕ) → region_at tree.now name ≡ number_of declared.now name }
-    ensures { IfOk result (λ after. LockStep declared.now fields.now (spec.lock_by before mark.now.tree) locks.old before locks.new after) }
+    ensures { IfOk result (λ after. LockStep declared.now (kinds_in kinds.now) (fields_in fields.now) (spec.lock_by before mark.now.tree) locks.old before locks.new after) }
 {
     let Some(content) = lock_by(before, &mark.tree) else {
         return Ok(before);
     };
-    let code = lock_code(declared, tree, fields, locks.as_slice(), content);
+    let code = lock_code(declared, tree, kinds, fields, locks, content);
     if code.is_none() {
         locks.push(lock_of(fields, content)?)?;
     }
@@ -261,28 +240,30 @@ pub struct HeaderLocks {
     pub codes: Items<Option<ScrubCode>>,
 }
 
-/// Judges the locks of a header one after another, over the codes so far.
+/// Judges the locks of a header one after another, over the codes so far. `kinds` has the class's
+/// regions, with whether each is static.
 pub fn scrub_locks(
     alloc: Global,
     declared: &[RegionDecl],
     tree: &RegionTree,
-    fields: &[FieldFace],
+    kinds: &BTreeMap<Name, bool>,
+    fields: &BTreeMap<Name, LockField>,
     marks: &[Mark],
     codes: &[Option<ScrubCode>],
 ) -> Result<HeaderLocks, OutOfMemory>
     requires parents { parents_in tree.now ≡ parents_of declared.now }
     requires regions { (name : List ℕ) → region_at tree.now name ≡ number_of declared.now name }
     requires long { length codes.now ≡ length marks.now }
-    ensures { IfOk result (λ header. LockSteps declared.now fields.now marks.now codes.now [] header.locks header.codes) }
+    ensures { IfOk result (λ header. LockSteps declared.now (kinds_in kinds.now) (fields_in fields.now) marks.now codes.now [] header.locks header.codes) }
 {
-    let mut locks = Items::new(alloc);
+    let mut locks = LockTable::new(alloc);
     let mut after = Items::new(alloc);
     for (i, mark) in marks.iter().enumerate() {
-        let code = put_lock(declared, tree, fields, codes[i], mark, &mut locks)?;
+        let code = put_lock(declared, tree, kinds, fields, codes[i], mark, &mut locks)?;
         after.push(code)?;
     }
     Ok(HeaderLocks {
-        locks,
+        locks: locks.into_items(),
         codes: after,
     })
 }

@@ -9,6 +9,7 @@ ghost use Rattle.promise_scrub.specs.Surfaces as spec;
 ghost use Rattle.promise_scrub.specs.Surfaces.{HeaderScrubbed};
 
 use crate::assume::assumptions_of;
+use crate::fields::lock_fields;
 use crate::found::Found;
 use crate::gather::{ClassFacts, all_marks, header_unit, names_of, put_members, put_unit};
 use crate::kinds::{lock_kinds, region_kinds};
@@ -47,11 +48,14 @@ fn scrub_header(
     let mut places = places_of(alloc, site, marks)?;
     let mut codes = first_codes(alloc, site, marks)?;
     let tree = scrub_regions(alloc, &mut regions, &mut places, &mut codes)?;
+    let kinds = region_kinds(alloc, regions.as_slice())?;
+    let known = lock_fields(alloc, fields)?;
     let scrubbed = scrub_locks(
         alloc,
         regions.as_slice(),
         &tree,
-        fields,
+        &kinds,
+        &known,
         marks,
         codes.as_slice(),
     )?;

@@ -1,6 +1,7 @@
-use crate::claims::{aside_of, claim_text, is_among, put_standing};
+use crate::claims::{aside_of, claim_text, put_standing};
 use crate::surface::{Aside, Standing};
-use desk_base::{Bytes, Items, OutOfMemory, PromiseName, Text};
+use crate::texts::Texts;
+use desk_base::{Items, OutOfMemory, PromiseName, Text};
 use promise_grammar::PromiseTree;
 use scrub_rules::{Claim, ScrubCode};
 use std::alloc::Global;
@@ -8,12 +9,12 @@ use std::alloc::Global;
 /// The promises of one unit, as its annotations are judged one by one: how many there were, which
 /// promises the written ones gave, the tags and the promises of those that stand, and what stands
 /// and what was set aside.
-#[derive(Debug, Drop)]
+#[derive(Drop)]
 pub struct Unit {
     pub number: usize,
-    pub own: Items<Bytes>,
-    pub tags: Items<Bytes>,
-    pub stood: Items<Bytes>,
+    pub own: Texts,
+    pub tags: Texts,
+    pub stood: Texts,
     pub standing: Items<Standing>,
     pub aside: Items<Aside>,
     pub vouched: bool,
@@ -29,9 +30,9 @@ impl Unit {
     {
         Unit {
             number: 0,
-            own: Items::new(alloc),
-            tags: Items::new(alloc),
-            stood: Items::new(alloc),
+            own: Texts::new(alloc),
+            tags: Texts::new(alloc),
+            stood: Texts::new(alloc),
             standing: Items::new(alloc),
             aside: Items::new(alloc),
             vouched: false,
@@ -75,7 +76,7 @@ impl Unit {
         ensures { OnOk result (self.new ≡ record self.old { standing = spec.standing_more key.now tree.now self.old claim.now }) }
     {
         let text = claim_text(alloc, claim)?;
-        if is_among(text.as_slice(), self.stood.as_slice()) {
+        if self.stood.has(&text) {
             return Ok(());
         }
         put_standing(alloc, &mut self.standing, key, claim, tree)

@@ -4,8 +4,8 @@ use Rattle.promise_scrub.proofs.scrub.scrub_header.Goals as goal
 
 pub scrub_locks-requires-clause-long : goal.scrub_locks-requires-clause-long
 scrub_locks-requires-clause-long c =
-    codes_fit c.args.site c.args.marks.now c.in_ok-codes.codes c.as_slice-2.result.now c.scrub_regions.new.codes c.in_ok-regions.regions c.in_ok-places.places
-    c.scrub_regions.new.declared c.as_slice-2.ensures c.in_ok-codes.ensures c.in_ok-tree.ensures.scrubs
+    codes_fit c.args.site c.args.marks.now c.in_ok-codes.codes c.as_slice-3.result.now c.scrub_regions.new.codes c.in_ok-regions.regions c.in_ok-places.places
+    c.scrub_regions.new.declared c.as_slice-3.ensures c.in_ok-codes.ensures c.in_ok-tree.ensures.scrubs
 
 pub returns : goal.returns
 returns c = (
@@ -13,6 +13,7 @@ returns c = (
   scrubs_at c.in_ok-regions.regions (decls_of c.args.site c.args.marks.now) c.in_ok-places.places (places_from c.args.site 0 c.args.marks.now)
       c.in_ok-codes.codes (first_codes c.args.site c.args.marks.now) c.scrub_regions.new.declared c.scrub_regions.new.codes
       c.in_ok-regions.ensures c.in_ok-places.ensures c.in_ok-codes.ensures c.in_ok-tree.ensures.scrubs,
-  steps_at c.as_slice.result.now c.scrub_regions.new.declared c.args.fields.now c.args.marks.now c.as_slice-2.result.now c.scrub_regions.new.codes
-      c.in_ok-scrubbed.scrubbed.locks c.in_ok-scrubbed.scrubbed.codes c.as_slice.ensures c.as_slice-2.ensures c.in_ok-scrubbed.ensures,
+  steps_at c.as_slice-2.result.now c.scrub_regions.new.declared c.as_slice.result.now c.in_ok-kinds.kinds c.in_ok-known.known c.args.fields.now
+      c.args.marks.now c.as_slice-3.result.now c.scrub_regions.new.codes c.in_ok-scrubbed.scrubbed.locks c.in_ok-scrubbed.scrubbed.codes
+      c.as_slice-2.ensures c.as_slice.ensures c.as_slice-3.ensures c.in_ok-kinds.ensures c.in_ok-known.ensures c.in_ok-scrubbed.ensures,
 )
