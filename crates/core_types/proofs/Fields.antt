@@ -90,7 +90,7 @@ holder-in : (os : List Obj) (c : ℕ) (o : Option Obj) → slice_get os c ≡ o 
 holder-in os c None e h = absurd (let no : ⊥ = cc in no)
 holder-in os c (Some x) e h = record { obj = x; found = e; passes = refl }
 
-class-is : {A : Type 0} (o : Option A) → is_some o ≡ true → (x : A) × (o ≡ Some x)
+pub class-is : {A : Type 0} (o : Option A) → is_some o ≡ true → (x : A) × (o ≡ Some x)
 class-is None h = absurd (let no : ⊥ = cc in no)
 class-is (Some x) h = (x, refl)
 

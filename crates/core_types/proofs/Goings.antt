@@ -27,19 +27,19 @@ unless : (x y : Bool) → (y ≡ true → x ≡ true) → x ≡ false → y ≡ 
 unless x true f e = absurd (let t : x ≡ true = f refl in let no : ⊥ = cc in no)
 unless x false f e = refl
 
-pub returns-on : (r : Option Ty) (known now : Bool) (k l : Code) → (ends now l false ≡ true → ends known k false ≡ true)
+pub returns-on : (r : Option Ty) (known now : Bool) (k l : Code) → (ends now l true ≡ true → ends known k true ≡ true)
     → Returns r known k → Returns r now l
 returns-on None known now k l f h = tt
-returns-on (Some t) known now k l f h = unless (ends known k false) (ends now l false) f h
+returns-on (Some t) known now k l f h = unless (ends known k true) (ends now l true) f h
 
 pub returns-known : (r : Option Ty) (known : Bool) (k : Code) → Returns r false k → Returns r known k
-returns-known r known k h = returns-on r false known k k (ends-known known k false) h
+returns-known r known k h = returns-on r false known k k (ends-known known k true) h
 
 -- the call with other code, whatever its temporaries
 pub going-on : (p : Program) (T : Types) (os : List Obj) (c : Call) (known now : Bool) (k : Code) (ts : List Value)
     → Fits p T (of_unit T c.unit) k []
     → ((i : ℕ) → reads i k false ≡ true → reads i c.rest false ≡ true)
-    → (ends now k false ≡ true → ends known c.rest false ≡ true)
+    → (ends now k true ≡ true → ends known c.rest true ≡ true)
     → IsGoing p T os known c → IsGoing p T os now (record c { rest = k; temps = ts })
 going-on p T os c known now k ts fits reads-less ends-less g = record {
   there = g.there;
@@ -96,7 +96,7 @@ beneath-grows p T os ns w r (c ∷ cs) g h =
     (going-grows p T os ns (known_beneath w r c.temps) c g h.0, awaits-grows T os ns w r c.temps (need_in p T c) g h.1,
     beneath-grows p T os ns c.gives (result_in T c) cs g h.2)
 
-result-grows : (T : Types) (os ns : List Obj) (t : Option Ty) (v : Option Value) → Grows os ns → ResultFits T os t v → ResultFits T ns t v
+pub result-grows : (T : Types) (os ns : List Obj) (t : Option Ty) (v : Option Value) → Grows os ns → ResultFits T os t v → ResultFits T ns t v
 result-grows T os ns None None g h = tt
 result-grows T os ns None (Some v) g h = absurd h
 result-grows T os ns (Some t) None g h = absurd h

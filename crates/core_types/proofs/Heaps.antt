@@ -55,7 +55,7 @@ pub fields-changed : (T : Types) (os : List Obj) (r : ℕ) (f : Obj → Obj) →
     → ((x : Obj) → slice_get os r ≡ Some x → ObjFits T os x → ObjFits T os (f x)) → FieldsFit T os → FieldsFit T (changed os r f)
 fields-changed T os r f same keeps h = fields-put T os r (slice_get os r) f refl (grows-changed os r f same) keeps h
 
-append-each : (P : Obj → Type 0) (os ns : List Obj) → ((r : ℕ) (o : Obj) → slice_get os r ≡ Some o → P o)
+pub append-each : (P : Obj → Type 0) (os ns : List Obj) → ((r : ℕ) (o : Obj) → slice_get os r ≡ Some o → P o)
     → ((r : ℕ) (o : Obj) → slice_get ns r ≡ Some o → P o) → (r : ℕ) (o : Obj) → slice_get (os ++ ns) r ≡ Some o → P o
 append-each P [] ns h g r o e = g r o e
 append-each P (x ∷ os) ns h g zero o e = h zero o e

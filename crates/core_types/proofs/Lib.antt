@@ -4,3 +4,6 @@ pub mod Heaps
 pub mod Goings
 pub mod Fields
 pub mod Straightly
+pub mod Calls
+pub mod Steps
+pub mod Wholes

@@ -92,8 +92,8 @@ module _ (p : Program) (T : Types) (program : ProgramFits p T) where
     ending = refl;
   }
 
-  pub end : (f : Frame) → Good p T f → Kept p T true (ends f)
-  end f g = record { fields = g.fields; calls = tt; started = tt; ending = refl }
+  pub end : (f : Frame) → FieldsFit T f.objects → Kept p T true (ends f)
+  end f fields = record { fields = fields; calls = tt; started = tt; ending = refl }
 
   pub push-kept : (f : Frame) (v : Value) (t : Ty) → Good p T f → AllSuit T (t ∷ []) (need_in p T f.call)
       → AllBelong T f.objects f.call.temps (drop 1 (need_in p T f.call)) → Belongs T f.objects v t → Kept p T false (push f v)
@@ -186,7 +186,7 @@ module _ (p : Program) (T : Types) (program : ProgramFits p T) where
         subst (λ w. LocalFits T f.objects w (slice_get (locals_of (of_unit T f.call.unit)) j))
         (sym (get-other f.call.locals i j v (λ x. d.1 (sym x)))) (g.locals j later))
         (eqb_tells j i);
-    returns = returns-on (of_unit T f.call.unit).result known (true_on_top ts) (Do n (plain.Set i) k) k (ends-known (true_on_top ts) k false) g.returns;
+    returns = returns-on (of_unit T f.call.unit).result known (true_on_top ts) (Do n (plain.Set i) k) k (ends-known (true_on_top ts) k true) g.returns;
   }
     where
       here : (os : List Obj) (w : Option Value) (u : Option Ty) (v : Value) (t : Ty) → w ≡ Some v → u ≡ Some t → Belongs T os v t → LocalFits T os w u
@@ -218,7 +218,7 @@ module _ (p : Program) (T : Types) (program : ProgramFits p T) where
   push-unless : (f : Frame) (b : Bool) (v : Value) → Good p T f → AllSuit T (IntType ∷ []) (need_in p T f.call)
       → AllBelong T f.objects f.call.temps (drop 1 (need_in p T f.call)) → Belongs T f.objects v IntType
       → Kept p T b (push_if f (if b then None else Some v))
-  push-unless f true v g s h b = end f g
+  push-unless f true v g s h b = end f g.fields
   push-unless f false v g s h b = push-kept f v IntType g s h b
 
   equal-found : (os : List Obj) (v w : Value) → Found T os (operated op.Equal v w) BoolType
@@ -327,7 +327,7 @@ module _ (p : Program) (T : Types) (program : ProgramFits p T) where
   field-kept f c i (Some t) (value.Int x ∷ ts) e g s h = absurd (let e = h.0 in let no : ⊥ = cc in no)
   field-kept f c i (Some t) (value.Bool b ∷ ts) e g s h = absurd (let e = h.0 in let no : ⊥ = cc in no)
   field-kept f c i (Some t) (value.Str x ∷ ts) e g s h = absurd (let e = h.0 in let no : ⊥ = cc in no)
-  field-kept f c i (Some t) (value.Null ∷ ts) e g s h = end f g
+  field-kept f c i (Some t) (value.Null ∷ ts) e g s h = end f g.fields
   field-kept f c i (Some t) (value.Ref r ∷ ts) e g s h =
       read-kept (with_temps f ts) r i t (own-at p T program f.objects r c i t h.0 e) (temps f ts g) s h.1
 
@@ -339,7 +339,7 @@ module _ (p : Program) (T : Types) (program : ProgramFits p T) where
   keep-kept f c i (Some t) (value.Int x ∷ ts) e g s h = absurd (let e = h.0 in let no : ⊥ = cc in no)
   keep-kept f c i (Some t) (value.Bool b ∷ ts) e g s h = absurd (let e = h.0 in let no : ⊥ = cc in no)
   keep-kept f c i (Some t) (value.Str x ∷ ts) e g s h = absurd (let e = h.0 in let no : ⊥ = cc in no)
-  keep-kept f c i (Some t) (value.Null ∷ ts) e g s h = end f g
+  keep-kept f c i (Some t) (value.Null ∷ ts) e g s h = end f g.fields
   keep-kept f c i (Some t) (value.Ref r ∷ ts) e g s h =
       read-kept (with_temps f (value.Ref r ∷ ts)) r i t (own-at p T program f.objects r c i t h.0 e) (temps f (value.Ref r ∷ ts) g)
       (first T t (ClassType c) (need_in p T f.call) s) (under T t f.objects (value.Ref r) (ClassType c) ts (need_in p T f.call) s h.0 h.1)
@@ -361,7 +361,7 @@ module _ (p : Program) (T : Types) (program : ProgramFits p T) where
   put-kept f c i (Some t) (v ∷ value.Int x ∷ ts) e g s h = absurd (let e = h.1.0 in let no : ⊥ = cc in no)
   put-kept f c i (Some t) (v ∷ value.Bool b ∷ ts) e g s h = absurd (let e = h.1.0 in let no : ⊥ = cc in no)
   put-kept f c i (Some t) (v ∷ value.Str x ∷ ts) e g s h = absurd (let e = h.1.0 in let no : ⊥ = cc in no)
-  put-kept f c i (Some t) (v ∷ value.Null ∷ ts) e g s h = end f g
+  put-kept f c i (Some t) (v ∷ value.Null ∷ ts) e g s h = end f g.fields
   put-kept f c i (Some t) (v ∷ value.Ref r ∷ ts) e g s h =
       write-kept (with_temps f ts) r i v t (own-at p T program f.objects r c i t h.1.0 e) h.0 (temps f ts g) h.1.1
 

@@ -13,7 +13,7 @@ use Rattle.core_model.specs.declared.value.Value.TheVariants as value
 use Rattle.core_laws.specs.Marks.{HasNoMarks}
 use Rattle.core_types.specs.Types.{Ty, ObjectType, ClassType, Types, UnitTypes, of_class, of_unit, args_of, locals_of, is_instance, is_runnable, has}
 use Rattle.core_types.specs.Belonging.{Belongs, AllBelong, Suits}
-use Rattle.core_types.specs.Need.{Fits}
+use Rattle.core_types.specs.Need.{need, Fits}
 use Rattle.core_types.specs.Paths.{reads, ends}
 
 -- a field's initial value belongs to its type
@@ -60,12 +60,13 @@ MainFits T (Some u) = (is_instance (of_unit T u) ≡ false) × AllBelong T [] (v
 -- code of a unit with a result comes to no end but by ReturnValue
 abbrev pub Returns : Option Ty → Bool → Code → Type 0
 Returns None known k = Unit {0}
-Returns (Some t) known k = ends known k false ≡ false
+Returns (Some t) known k = ends known k true ≡ false
 
 pub record UnitFits (p : Program) (T : Types) (u : ℕ) (code : UnitCode) : Type 0 where
   pub long : length (locals_of (of_unit T u)) ≡ code.locals
   pub this : is_instance (of_unit T u) ≡ not code.is_static
   pub fits : Fits p T (of_unit T u) code.code []
+  pub needs : need p T (of_unit T u) code.code [] ≡ []
   -- a local is read only once it is set
   pub set : (i : ℕ) → reads i code.code false ≡ true → nat_lt i (length (args_of (of_unit T u))) ≡ true
   pub returns : Returns (of_unit T u).result false code.code

@@ -1,15 +1,12 @@
-use Rattle.core_types.proofs.Straightly.{plain-kept}
-use Rattle.core_types.proofs.Heaps.{fields-made}
-use Rattle.core_types.proofs.Goings.{threads-grow}
-use Rattle.core_types.proofs.Widening.{push-one}
-use Rattle.core_types.proofs.Codes.{fits-append}
+use Rattle.core_model.specs.Begin.{begin}
+use Rattle.core_types.proofs.Wholes.{begin-fits, step-fits, run-fits}
 use Rattle.core_types.proofs.typing.types_are_kept.Goals as goal
 
 pub returns-clause-begun : goal.returns-clause-begun
-returns-clause-begun c = ?
+returns-clause-begun c = begin-fits
 
 pub returns-clause-kept : goal.returns-clause-kept
-returns-clause-kept c = ?
+returns-clause-kept c = step-fits
 
 pub returns-clause-always : goal.returns-clause-always
-returns-clause-always c = ?
+returns-clause-always c = λ p T program mains schedule h. run-fits p T (begin p mains) schedule (begin-fits p T program mains h)
