@@ -5,8 +5,8 @@ use mathlib.Core.List.{reverse_aux}
 use Rattle.std.proofs.lemmas.Bool.{lt-ltb, ltb-true, le-leb}
 use Rattle.std.proofs.lemmas.Bool.Decides.{eqb_tells}
 use Rattle.std.proofs.lemmas.List.{length-append, length-replicate, length-reverse, reverse-reverse}
-use Rattle.core_model.specs.Frames.{with_objects, with_temps, goes, ends, push}
-use Rattle.core_model.specs.Calling.{begins, construct, make_of, make_from, receiver, call_in, call_at, call_on, call_from, call_static_from, thread_of, start_with, start_in, start_from}
+use Rattle.core_model.specs.Frames.{with_objects, with_temps, ends}
+use Rattle.core_model.specs.Calling.{begins, construct, make_of, make_from, call_in, call_at, call_on, call_from, call_static_from, start_with, start_in, start_from}
 use Rattle.core_model.specs.Objects.{class_of, made, new_object, fresh_object, fresh_count, initial_values, own_initials}
 use Rattle.core_model.specs.Units.{unit_number, call_with, call_for, call_of}
 use Rattle.core_model.specs.declared.instr.Known.{Known}
@@ -17,22 +17,20 @@ use Rattle.core_model.specs.declared.program.UnitCode.{UnitCode}
 use Rattle.core_model.specs.declared.object.Obj.{Obj}
 use Rattle.core_model.specs.declared.object.ObjKind.{ObjKind}
 use Rattle.core_model.specs.declared.object.ObjKind.TheVariants as kind
-use Rattle.core_model.specs.declared.config.Call.{Call}
 use Rattle.core_model.specs.declared.config.Gives.{Gives}
 use Rattle.core_model.specs.declared.config.Gives.TheVariants.{Own, Object}
 use Rattle.core_model.specs.declared.frame.Frame.{Frame}
 use Rattle.core_model.specs.declared.frame.After.{After}
 use Rattle.core_model.specs.declared.value.Value.{Value}
 use Rattle.core_model.specs.declared.value.Value.TheVariants as value
-use Rattle.core_types.specs.Types.{Ty, ClassType, RunnableType, AnyType, Types, of_class, of_unit, args_of, locals_of, not_empty, is_instance, has, is_class, is_runnable}
-use Rattle.core_types.specs.Belonging.{refers, may_run, is_of, Belongs, AllBelong, Suits}
-use Rattle.core_types.specs.Uses.{Use, Goes, Wrong, constructed, of_make, called, called_on, called_static, of_call}
+use Rattle.core_types.specs.Types.{Ty, ClassType, RunnableType, AnyType, Types, of_class, of_unit, args_of, not_empty, is_instance, has, is_class, is_runnable}
+use Rattle.core_types.specs.Belonging.{refers, may_run, is_of, Belongs, AllBelong}
+use Rattle.core_types.specs.Uses.{Goes, Wrong, constructed, of_make, called, called_on, called_static, of_call}
 use Rattle.core_types.specs.Need.{need_of, AllSuit, UseFits}
-use Rattle.core_types.specs.Paths.{reads, true_on_top}
-use Rattle.core_types.specs.Programs.{ThisFits, MemberFits, IsAlike, RunFits, ProgramFits}
-use Rattle.core_types.specs.Configs.{FieldsFit, LocalFits, IsGoing, need_in, result_in, TopFits, Awaits, known_beneath, BeneathFit}
+use Rattle.core_types.specs.Programs.{ThisFits, IsAlike, RunFits, ProgramFits}
+use Rattle.core_types.specs.Configs.{LocalFits, need_in, TopFits, Awaits, known_beneath}
 use Rattle.core_types.specs.Faults.{null_in, null_under}
-use Rattle.core_types.proofs.Widening.{Grows, all-long, all-take, all-drop, all-grow, push-one}
+use Rattle.core_types.proofs.Widening.{Grows, all-long, all-take, all-drop, all-grow}
 use Rattle.core_types.proofs.Heaps.{grows-append, fields-made, get-past}
 use Rattle.core_types.proofs.Goings.{going-known}
 use Rattle.core_types.proofs.Codes.{or-left}
@@ -55,10 +53,11 @@ all-reverse T os vs ts h = all-reverse-aux T os vs [] ts [] h tt
 pub args-belong : (T : Types) (os : List Obj) (vs : List Value) (ts us : List Ty) (n : ℕ) → n ≡ length ts → AllBelong T os vs (reverse ts ++ us)
     → AllBelong T os (reverse (take n vs)) ts × AllBelong T os (drop n vs) us
 args-belong T os vs ts us n e h =
-    let same : n ≡ length (reverse ts) = e ∙ sym (length-reverse ts) in
-    (subst (λ l. AllBelong T os (reverse (take n vs)) l) (reverse-reverse ts)
-    (rw same (all-reverse T os (take (length (reverse ts)) vs) (reverse ts) (all-take T os vs (reverse ts) us h))),
-    rw same (all-drop T os vs (reverse ts) us h))
+    let same : n ≡ length (reverse ts) = e ∙ sym (length-reverse ts) in (
+      subst (λ l. AllBelong T os (reverse (take n vs)) l) (reverse-reverse ts)
+          (rw same (all-reverse T os (take (length (reverse ts)) vs) (reverse ts) (all-take T os vs (reverse ts) us h))),
+      rw same (all-drop T os vs (reverse ts) us h),
+    )
 
 enough : (T : Types) (os : List Obj) (vs : List Value) (ts us : List Ty) → AllBelong T os vs (reverse ts ++ us) → length ts ≤ length vs
 enough T os vs ts us h =
@@ -114,17 +113,19 @@ module _ (p : Program) (T : Types) (program : ProgramFits p T) where
       → AllBelong T os args (args_of (of_unit T u)) → TopFits p T os (call_with u code args w)
   begun-fits os u code args w e h =
       let fits = program.units u code e in
-      let n = all-long T os args (args_of (of_unit T u)) h in
-      (record {
-        there = rw e refl;
-        fits = fits.fits;
-        long = length-append args (replicate (code.locals - length args) value.Null)
-            ∙ (let l = length-replicate (code.locals - length args) value.Null in
-            omega (arith, l, n, fits.long, length-append (args_of (of_unit T u)) (of_unit T u).others));
-        locals = λ i r. local-begun T os args (replicate (code.locals - length args) value.Null) (args_of (of_unit T u)) (of_unit T u).others i
-            (ltb-true i (length (args_of (of_unit T u))) (fits.set i r)) h;
-        returns = fits.returns;
-      }, rw fits.needs tt)
+      let n = all-long T os args (args_of (of_unit T u)) h in (
+        record {
+          there = rw e refl;
+          fits = fits.fits;
+          long = length-append args (replicate (code.locals - length args) value.Null)
+              ∙ (let l = length-replicate (code.locals - length args) value.Null in
+              omega (arith, l, n, fits.long, length-append (args_of (of_unit T u)) (of_unit T u).others));
+          locals = λ i r. local-begun T os args (replicate (code.locals - length args) value.Null) (args_of (of_unit T u)) (of_unit T u).others i
+              (ltb-true i (length (args_of (of_unit T u))) (fits.set i r)) h;
+          returns = fits.returns;
+        },
+        rw fits.needs tt,
+      )
 
   -- the caller awaits what the call gives
   begins-with : (f : Frame) (w : Gives) (u : ℕ) (code : UnitCode) (args : List Value) → slice_get p.units u ≡ Some code → Good p T f
@@ -132,8 +133,10 @@ module _ (p : Program) (T : Types) (program : ProgramFits p T) where
       → Kept p T false (begins f (call_for u (Some code) args w))
   begins-with f w u code args e g h a = record {
     fields = g.fields;
-    calls = (begun-fits f.objects u code args w e h,
-        (going-known p T f.objects f.call (known_beneath w (of_unit T u).result f.call.temps) f.call.temps g.going, a, g.below));
+    calls = (
+      begun-fits f.objects u code args w e h,
+      (going-known p T f.objects f.call (known_beneath w (of_unit T u).result f.call.temps) f.call.temps g.going, a, g.below),
+    );
     started = tt;
     ending = refl;
   }
@@ -297,6 +300,7 @@ module _ (p : Program) (T : Types) (program : ProgramFits p T) where
     where
       equal : (a b : ℕ) → (a == b) ≡ true → a ≡ b
       equal a b e = ⊎_elim (λ y. y.1) (λ d. absurd (let no : ⊥ = cc in no)) (eqb_tells a b)
+
       chosen : (x y : Bool) → (m == 2) ≡ x → (n == 0) ≡ y → UseFits T (if x && y then Goes (RunnableType ∷ []) [] else Wrong) (need_in p T f.call)
           → AllBelong T f.objects ts (need_of (if x && y then Goes (RunnableType ∷ []) [] else Wrong) (need_in p T f.call))
           → Kept p T (null_under n ts) (call_from p f m n ts)
@@ -387,9 +391,9 @@ module _ (p : Program) (T : Types) (program : ProgramFits p T) where
       let ns : List Obj = made f.objects c info.fields in
       let w = made-grows f c info in
       let body = construct-kept (with_objects (with_temps f (drop n ts)) ns) c n (length f.objects) u (reverse (take n ts)) number instance
-          (temps p T program (with_objects f ns) (drop n ts) (made-good f c info e g)) (new-belongs f c info)
-          (all-grow T f.objects ns (reverse (take n ts)) (of_unit T u).params w args.0) s
-          (all-grow T f.objects ns (drop n ts) us w args.1) in
+      (temps p T program (with_objects f ns) (drop n ts) (made-good f c info e g)) (new-belongs f c info)
+      (all-grow T f.objects ns (reverse (take n ts)) (of_unit T u).params w args.0) s
+      (all-grow T f.objects ns (drop n ts) us w args.1) in
       if-kept p T program (nat_le n (length ts)) (make_of p (with_temps f (drop n ts)) c n (reverse (take n ts)) (slice_get p.classes c)) (ends f)
       (le-leb n (length ts) few)
       (subst (λ (o : Option ClassInfo). Kept p T false (make_of p (with_temps f (drop n ts)) c n (reverse (take n ts)) o)) (sym e)
@@ -405,14 +409,14 @@ module _ (p : Program) (T : Types) (program : ProgramFits p T) where
   make-bare f c n info ts number e g s h =
       let us : List Ty = drop 1 (need_in p T f.call) in
       let under : AllBelong T f.objects (drop n ts) us =
-          subst (λ m. AllBelong T f.objects (drop m ts) us) (any-long n) (all-drop T f.objects ts (replicate n AnyType) us h) in
+      subst (λ m. AllBelong T f.objects (drop m ts) us) (any-long n) (all-drop T f.objects ts (replicate n AnyType) us h) in
       let few : n ≤ length ts =
-          omega (arith, all-long T f.objects ts (replicate n AnyType ++ us) h, length-append (replicate n AnyType) us, any-long n) in
+      omega (arith, all-long T f.objects ts (replicate n AnyType ++ us) h, length-append (replicate n AnyType) us, any-long n) in
       let ns : List Obj = made f.objects c info.fields in
       let body : Kept p T false (construct p (with_objects (with_temps f (drop n ts)) ns) (length f.objects) (reverse (take n ts)) None) =
-          push-kept p T program (with_objects (with_temps f (drop n ts)) ns) (value.Ref (length f.objects)) (ClassType c)
-          (temps p T program (with_objects f ns) (drop n ts) (made-good f c info e g)) s
-          (all-grow T f.objects ns (drop n ts) us (made-grows f c info) under) (new-belongs f c info) in
+      push-kept p T program (with_objects (with_temps f (drop n ts)) ns) (value.Ref (length f.objects)) (ClassType c)
+      (temps p T program (with_objects f ns) (drop n ts) (made-good f c info e g)) s
+      (all-grow T f.objects ns (drop n ts) us (made-grows f c info) under) (new-belongs f c info) in
       if-kept p T program (nat_le n (length ts)) (make_of p (with_temps f (drop n ts)) c n (reverse (take n ts)) (slice_get p.classes c)) (ends f)
       (le-leb n (length ts) few)
       (subst (λ (o : Option ClassInfo). Kept p T false (make_of p (with_temps f (drop n ts)) c n (reverse (take n ts)) o)) (sym e)

@@ -1,5 +1,5 @@
 -- Code as it goes on: what it needs, reads and ends by.
-use Rattle.std.proofs.Common.{◌≡◌, refl, ℕ, ◌==◌, ◌||◌, ◌&&◌, not, Bool, true, false, List, [], ◌∷◌, Option, Some, None, if◌then◌else◌, sym, ap, ◌∙◌}
+use Rattle.std.proofs.Common.{◌≡◌, refl, ℕ, ◌||◌, ◌&&◌, not, Bool, true, false, List, ◌∷◌, if◌then◌else◌, sym, ap, ◌∙◌}
 use Rattle.core_model.specs.Code.{Code, Done, Do, If, While, Enter, EnterClass, Exit, ◌⧺◌}
 use Rattle.core_model.specs.declared.instr.Note.{Note}
 use Rattle.core_model.specs.declared.instr.Plain.{Plain}
@@ -7,10 +7,9 @@ use Rattle.core_model.specs.declared.instr.Plain.TheVariants as plain
 use Rattle.core_model.specs.declared.program.Program.{Program}
 use Rattle.core_laws.specs.Places.{again}
 use Rattle.core_types.specs.Types.{Ty, BoolType, ObjectType, Types, UnitTypes}
-use Rattle.core_types.specs.Need.{need, need_of, Fits, UseFits}
+use Rattle.core_types.specs.Need.{need, need_of, Fits}
 use Rattle.core_types.specs.Uses.{use_of}
 use Rattle.core_types.specs.Paths.{reads, reads_by, ends, ends_by, pushes_true, is_done, is_always_true}
-use Rattle.core_types.specs.Programs.{Returns}
 
 -- ---- temporaries
 
@@ -44,7 +43,7 @@ module _ (p : Program) (T : Types) (u : UnitTypes) where
   pub fits-turn : (n : Note) (c b k : Code) (l : List Ty) → Fits p T u (While n c b k) l → Fits p T u (c ⧺ again n c b k) l
   fits-turn n c b k l h =
       let inner : need p T u (b ⧺ While n c b Done) (need p T u k l) ≡ need p T u k l =
-          need-append b (While n c b Done) (need p T u k l) ∙ h.1 in
+      need-append b (While n c b Done) (need p T u k l) ∙ h.1 in
       fits-append c (again n c b k) l (rw inner h.2)
       (inner, fits-append b (While n c b Done) (need p T u k l) h.3 (h.0, h.1, h.2, h.3, tt), tt, h.4)
 
@@ -170,16 +169,18 @@ ends-forever n m (plain.Const v) b k l t h =
     let w : Bool → Bool = λ x. ends false b x in
     let is : ends true (again n (Do m (plain.Const v) Done) b k) l ≡ true = ap (λ x. ends x (again n (Do m (plain.Const v) Done) b k) l) (sym t) ∙ h in
     let inner : ends false (b ⧺ While n (Do m (plain.Const v) Done) b Done) (ends false k l) ≡ true =
-        or-only (ends false (b ⧺ While n (Do m (plain.Const v) Done) b Done) (ends false k l)) is in
+    or-only (ends false (b ⧺ While n (Do m (plain.Const v) Done) b Done) (ends false k l)) is in
     let loop : ends false (While n (Do m (plain.Const v) Done) b Done) (ends false k l) ≡ ends false b false = rw t refl in
     twice (λ x. x) w false (ends false b false) (or-false (ends false b false)) (or-wide (ends false b (ends false b false)) (rw (← loop) (ends-append false b (While n (Do m (plain.Const v) Done) b Done) (ends false k l) inner)))
   where
     or-only : (a : Bool) → a || false ≡ true → a ≡ true
     or-only true h = refl
     or-only false h = h
+
     or-false : (a : Bool) → a || false ≡ a
     or-false true = refl
     or-false false = refl
+
     or-wide : (a : Bool) → a ≡ true → a || false ≡ true
     or-wide true h = refl
     or-wide false h = h
@@ -209,8 +210,8 @@ ends-loop known n c b k l never h =
     let loop : (m : Bool) → ends false (While n c b Done) m ≡ ends false c (ends false b false || m) = λ m. rw never refl in
     let first : ends false c (ends false (again n c b k) l) ≡ true = ends-known known c (ends false (again n c b k) l) (ends-append known c (again n c b k) l h) in
     let more : ends false (again n c b k) l ≡ true → ends false b whole || ends false k l ≡ true = λ x.
-        or-map (ends false (b ⧺ While n c b Done) (ends false k l)) (ends false k l) (ends false b whole) (ends false k l)
-        (λ y. rw (← loop (ends false k l)) (ends-append false b (While n c b Done) (ends false k l) y)) (λ y. y) x in
+    or-map (ends false (b ⧺ While n c b Done) (ends false k l)) (ends false k l) (ends false b whole) (ends false k l)
+    (λ y. rw (← loop (ends false k l)) (ends-append false b (While n c b Done) (ends false k l) y)) (λ y. y) x in
     twice (ends false c) (ends false b) (ends false k l) whole refl
     (ends-map false c (ends false (again n c b k) l) (ends false b whole || ends false k l) more first)
 

@@ -1,16 +1,15 @@
 -- Where a field of a type is found.
-use Rattle.std.proofs.Common.{◌≡◌, ℕ, zero, suc, ◌==◌, ◌||◌, ⊎_elim, Bool, true, false, List, [], ◌∷◌, Option, Some, None, length, slice_get, slice_set, is_some, refl, sym, ap, ◌∙◌, subst, arith}
+use Rattle.std.proofs.Common.{◌≡◌, ℕ, zero, suc, ◌||◌, ⊎_elim, Bool, true, List, [], ◌∷◌, Option, Some, None, length, slice_get, is_some, refl, sym, ap, ◌∙◌, subst, arith}
 use Rattle.std.proofs.lemmas.Bool.Decides.{eqb_tells}
 use Rattle.core_model.specs.Objects.{field_of, field_at, with_field, changed}
 use Rattle.core_model.specs.declared.program.Program.{Program}
-use Rattle.core_model.specs.declared.program.ClassInfo.{ClassInfo}
 use Rattle.core_model.specs.declared.object.Obj.{Obj}
 use Rattle.core_model.specs.declared.object.ObjKind.{ObjKind}
 use Rattle.core_model.specs.declared.object.ObjKind.TheVariants as kind
 use Rattle.core_model.specs.declared.value.Value.{Value}
 use Rattle.core_model.specs.declared.value.Value.TheVariants as value
 use Rattle.core_laws.specs.Shape.{kind_of}
-use Rattle.core_types.specs.Types.{Ty, ClassType, ObjectType, Types, ClassTypes, or_no_class, of_class, has, is_class}
+use Rattle.core_types.specs.Types.{Ty, ClassType, Types, ClassTypes, or_no_class, of_class, has, is_class}
 use Rattle.core_types.specs.Belonging.{if_kind, is_of, Belongs}
 use Rattle.core_types.specs.Programs.{ProgramFits}
 use Rattle.core_types.specs.Configs.{fields_types, FieldsFit}

@@ -1,5 +1,5 @@
 -- Calls that can go on, as code goes on and as objects change.
-use Rattle.std.proofs.Common.{◌≡◌, ℕ, Bool, true, false, List, [], ◌∷◌, Option, Some, None, length, slice_get, refl, sym, ap, ◌∙◌}
+use Rattle.std.proofs.Common.{◌≡◌, ℕ, Bool, true, false, List, [], ◌∷◌, Option, Some, None, slice_get, refl}
 use Rattle.core_model.specs.Code.{Code}
 use Rattle.core_model.specs.declared.program.Program.{Program}
 use Rattle.core_model.specs.declared.object.Obj.{Obj}
@@ -13,11 +13,10 @@ use Rattle.core_model.specs.declared.value.Value.{Value}
 use Rattle.core_model.specs.declared.value.Value.TheVariants as value
 use Rattle.core_laws.specs.Places.{Each}
 use Rattle.core_types.specs.Types.{Ty, Types, of_unit, locals_of}
-use Rattle.core_types.specs.Belonging.{Belongs, AllBelong}
-use Rattle.core_types.specs.Need.{need, Fits}
+use Rattle.core_types.specs.Need.{Fits}
 use Rattle.core_types.specs.Paths.{reads, ends, true_on_top}
 use Rattle.core_types.specs.Programs.{Returns}
-use Rattle.core_types.specs.Configs.{LocalFits, IsGoing, need_in, result_in, TopFits, AwaitsType, AwaitsResult, AwaitsValue, Awaits, known_beneath, BeneathFit, ResultFits, CallsFit, ThreadFits}
+use Rattle.core_types.specs.Configs.{LocalFits, IsGoing, need_in, result_in, AwaitsType, Awaits, known_beneath, BeneathFit, ResultFits, CallsFit, ThreadFits}
 use Rattle.core_types.proofs.Widening.{Grows, belongs-grows, all-grow}
 use Rattle.core_types.proofs.Codes.{ends-known}
 
@@ -92,9 +91,11 @@ awaits-grows T os ns (Object q) r ts (n ∷ l) g h = (belongs-grows T os ns (val
 pub beneath-grows : (p : Program) (T : Types) (os ns : List Obj) (w : Gives) (r : Option Ty) (cs : List Call) → Grows os ns
     → BeneathFit p T os w r cs → BeneathFit p T ns w r cs
 beneath-grows p T os ns w r [] g h = tt
-beneath-grows p T os ns w r (c ∷ cs) g h =
-    (going-grows p T os ns (known_beneath w r c.temps) c g h.0, awaits-grows T os ns w r c.temps (need_in p T c) g h.1,
-    beneath-grows p T os ns c.gives (result_in T c) cs g h.2)
+beneath-grows p T os ns w r (c ∷ cs) g h = (
+  going-grows p T os ns (known_beneath w r c.temps) c g h.0,
+  awaits-grows T os ns w r c.temps (need_in p T c) g h.1,
+  beneath-grows p T os ns c.gives (result_in T c) cs g h.2,
+)
 
 pub result-grows : (T : Types) (os ns : List Obj) (t : Option Ty) (v : Option Value) → Grows os ns → ResultFits T os t v → ResultFits T ns t v
 result-grows T os ns None None g h = tt
@@ -104,9 +105,10 @@ result-grows T os ns (Some t) (Some v) g h = belongs-grows T os ns v t g h
 
 calls-grow : (p : Program) (T : Types) (os ns : List Obj) (m : Mode) (cs : List Call) → Grows os ns → CallsFit p T os m cs → CallsFit p T ns m cs
 calls-grow p T os ns mode.Running [] g h = absurd h
-calls-grow p T os ns mode.Running (c ∷ cs) g h =
-    ((going-grows p T os ns (true_on_top c.temps) c g h.0.0, all-grow T os ns c.temps (need_in p T c) g h.0.1),
-    beneath-grows p T os ns c.gives (result_in T c) cs g h.1)
+calls-grow p T os ns mode.Running (c ∷ cs) g h = (
+  (going-grows p T os ns (true_on_top c.temps) c g h.0.0, all-grow T os ns c.temps (need_in p T c) g h.0.1),
+  beneath-grows p T os ns c.gives (result_in T c) cs g h.1,
+)
 calls-grow p T os ns (mode.Leaving v) [] g h = absurd h
 calls-grow p T os ns (mode.Leaving v) (c ∷ cs) g h =
     (result-grows T os ns (result_in T c) v g h.0, beneath-grows p T os ns c.gives (result_in T c) cs g h.1)

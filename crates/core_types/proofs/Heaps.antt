@@ -1,5 +1,5 @@
 -- Fields keep their types as objects are written, entered and made.
-use Rattle.std.proofs.Common.{◌≡◌, ℕ, zero, suc, ◌+◌, ◌<◌, ⊎_elim, Bool, true, false, List, [], ◌∷◌, ◌++◌, Option, Some, None, length, replicate, slice_get, slice_set, refl, sym, ap, ◌∙◌, subst, arith}
+use Rattle.std.proofs.Common.{◌≡◌, ℕ, zero, suc, ◌+◌, ◌<◌, ⊎_elim, List, [], ◌∷◌, ◌++◌, Option, Some, None, length, replicate, slice_get, slice_set, refl, sym, ap, ◌∙◌, subst, arith}
 use Rattle.std.proofs.lemmas.Bool.Decides.{eqb_tells}
 use Rattle.core_model.specs.Objects.{put_for, changed, new_object, fresh_object, fresh_count, initial_values, own_initials, made}
 use Rattle.core_model.specs.declared.program.Program.{Program}
@@ -7,14 +7,13 @@ use Rattle.core_model.specs.declared.program.ClassInfo.{ClassInfo}
 use Rattle.core_model.specs.declared.program.Initial.{Initial}
 use Rattle.core_model.specs.declared.program.Initial.TheVariants.{Held, FreshObject}
 use Rattle.core_model.specs.declared.object.Obj.{Obj}
-use Rattle.core_model.specs.declared.object.ObjKind.{ObjKind}
 use Rattle.core_model.specs.declared.object.ObjKind.TheVariants as kind
 use Rattle.core_model.specs.declared.value.Value.TheVariants as value
 use Rattle.core_laws.specs.Shape.{kind_of}
 use Rattle.core_laws.proofs.Owners.{get-set, get-other}
 use Rattle.core_laws.proofs.Shaping.{change-kind, append-kind}
 use Rattle.core_types.specs.Types.{Ty, Types, of_class}
-use Rattle.core_types.specs.Belonging.{if_kind, is_object, AllBelong}
+use Rattle.core_types.specs.Belonging.{AllBelong}
 use Rattle.core_types.specs.Programs.{InitialsFit}
 use Rattle.core_types.specs.Configs.{fields_types, FieldsFit}
 use Rattle.core_types.proofs.Widening.{Grows, belongs-grows, all-grow}
@@ -97,11 +96,12 @@ initials-belong T ns n (Held v ∷ is) (t ∷ ts) f h =
     (belongs-grows T [] ns v t (grows-none ns) h.0, initials-belong T ns n is ts f h.1)
 initials-belong T ns n (FreshObject ∷ is) (t ∷ ts) f h =
     let here : n + 0 ≡ n = omega arith in
-    let first : kind_of (slice_get ns n) ≡ Some kind.Plain = ap (λ j. kind_of (slice_get ns j)) (sym here) ∙ f 0 (omega arith) in
-    (h.0 ns (value.Ref n) (rw first refl),
-    initials-belong T ns (n + 1) is ts
-    (λ j less. let next : n + 1 + j ≡ n + (1 + j) = omega arith in
-    ap (λ i. kind_of (slice_get ns i)) next ∙ f (1 + j) (omega (arith, less))) h.1)
+    let first : kind_of (slice_get ns n) ≡ Some kind.Plain = ap (λ j. kind_of (slice_get ns j)) (sym here) ∙ f 0 (omega arith) in (
+      h.0 ns (value.Ref n) (rw first refl),
+      initials-belong T ns (n + 1) is ts
+          (λ j less. let next : n + 1 + j ≡ n + (1 + j) = omega arith in
+          ap (λ i. kind_of (slice_get ns i)) next ∙ f (1 + j) (omega (arith, less))) h.1,
+    )
 
 cons-each : (P : Obj → Type 0) (x : Obj) (ns : List Obj) → P x → ((r : ℕ) (o : Obj) → slice_get ns r ≡ Some o → P o)
     → (r : ℕ) (o : Obj) → slice_get (x ∷ ns) r ≡ Some o → P o
@@ -117,7 +117,7 @@ fields-made T os c info fits h =
     let more : List Obj = replicate (fresh_count (own_initials info.fields)) fresh_object in
     let new : Obj = new_object (kind.Made c) (initial_values (length os + 1) (own_initials info.fields)) in
     let fresh : FreshFrom (os ++ new ∷ more) (length os + 1) (fresh_count (own_initials info.fields)) = λ j less.
-        ap kind_of (get-past os (new ∷ more) (suc j) (length os + 1 + j) (omega arith)) ∙ fresh-at (fresh_count (own_initials info.fields)) j less in
+    ap kind_of (get-past os (new ∷ more) (suc j) (length os + 1 + j) (omega arith)) ∙ fresh-at (fresh_count (own_initials info.fields)) j less in
     fields-append T os (new ∷ more) h
     (cons-each (ObjFits T (os ++ new ∷ more)) new more
     (initials-belong T (os ++ new ∷ more) (length os + 1) (own_initials info.fields) (of_class T c).own fresh fits)

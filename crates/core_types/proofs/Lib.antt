@@ -7,3 +7,4 @@ pub mod Straightly
 pub mod Calls
 pub mod Steps
 pub mod Wholes
+pub mod Outcomes

@@ -1,12 +1,12 @@
 -- A step keeps its thread's calls well typed.
-use Rattle.std.proofs.Common.{◌≡◌, ℕ, ◌==◌, ◌||◌, ⊎_elim, Bool, true, false, if◌then◌else◌, List, [], ◌∷◌, Option, Some, None, drop, slice_get, is_some, refl, sym, ap, ◌∙◌, subst}
+use Rattle.std.proofs.Common.{◌≡◌, ℕ, ◌==◌, ⊎_elim, Bool, true, false, if◌then◌else◌, List, [], ◌∷◌, Option, Some, None, slice_get, is_some, refl, sym, ◌∙◌, subst}
 use Rattle.std.proofs.lemmas.Bool.Decides.{eqb_tells}
 use Rattle.core_model.specs.Code.{Code, Done, Do, If, While, Enter, EnterClass, Exit, ◌⧺◌}
-use Rattle.core_model.specs.Frames.{with_objects, with_temps, with_rest, after, goes, ends as stops}
-use Rattle.core_model.specs.Straight.{return_from, return_value_from, branch_from, turn}
-use Rattle.core_model.specs.Monitors.{take_monitor, enter_from, enter_class, exit_object}
+use Rattle.core_model.specs.Frames.{with_objects, with_temps, with_rest, goes}
+use Rattle.core_model.specs.Straight.{return_value_from, branch_from, turn}
+use Rattle.core_model.specs.Monitors.{take_monitor, enter_from, enter_class}
 use Rattle.core_model.specs.Objects.{blocks, changed, entered, exited}
-use Rattle.core_model.specs.Step.{do_plain, given, with_given, left, dropped, next, next_exit, leave, unwind, move, moved}
+use Rattle.core_model.specs.Step.{do_plain, given, left, dropped, next, next_exit, leave, unwind, move, moved}
 use Rattle.core_model.specs.declared.instr.Note.{Note}
 use Rattle.core_model.specs.declared.instr.Plain.{Plain}
 use Rattle.core_model.specs.declared.instr.Plain.TheVariants as plain
@@ -23,20 +23,20 @@ use Rattle.core_model.specs.declared.frame.After.{After}
 use Rattle.core_model.specs.declared.value.Value.{Value}
 use Rattle.core_model.specs.declared.value.Value.TheVariants as value
 use Rattle.core_laws.specs.Places.{again}
-use Rattle.core_types.specs.Types.{Ty, BoolType, ObjectType, Types, of_unit, locals_of}
-use Rattle.core_types.specs.Belonging.{is_object, AllBelong, Suits}
+use Rattle.core_types.specs.Types.{Ty, Types, of_unit, locals_of}
+use Rattle.core_types.specs.Belonging.{is_object, AllBelong}
 use Rattle.core_types.specs.Uses.{returned}
 use Rattle.core_types.specs.Need.{need, need_of, UseFits, Fits}
 use Rattle.core_types.specs.Paths.{reads, reads_by, ends, ends_by, is_true, true_on_top, pushes_true}
 use Rattle.core_types.specs.Programs.{ProgramFits, Returns}
-use Rattle.core_types.specs.Configs.{FieldsFit, IsGoing, need_in, result_in, AwaitsType, AwaitsResult, AwaitsValue, Awaits, BeneathFit, ResultFits, CallsFit}
+use Rattle.core_types.specs.Configs.{FieldsFit, IsGoing, need_in, result_in, AwaitsType, AwaitsValue, BeneathFit, ResultFits, CallsFit}
 use Rattle.core_types.specs.Faults.{faults, null_under, is_ending}
 use Rattle.core_types.proofs.Widening.{Grows, all-grow}
 use Rattle.core_types.proofs.Heaps.{Holders, grows-changed, fields-changed}
-use Rattle.core_types.proofs.Goings.{going-on, going-known, going-same, going-grows, beneath-grows, result-grows}
+use Rattle.core_types.proofs.Goings.{going-on, going-known, going-grows, beneath-grows, result-grows}
 use Rattle.core_types.proofs.Codes.{need-append, fits-append, need-turn, fits-turn, reads-append, reads-turn, or-left, or-right, ends-known, ends-append, ends-turn}
 use Rattle.core_types.proofs.Fields.{IsThere, is-there, holder-there}
-use Rattle.core_types.proofs.Straightly.{Kept, Good, temps, objects, go, end, const-kept, get-kept, set-kept, drop-kept, neg-kept, not-kept, operate-kept, of-field-kept, of-keep-kept, of-put-kept, static-kept, put-static-kept, plain-kept}
+use Rattle.core_types.proofs.Straightly.{Kept, Good, end, const-kept, get-kept, set-kept, drop-kept, neg-kept, not-kept, operate-kept, of-field-kept, of-keep-kept, of-put-kept, static-kept, put-static-kept, plain-kept}
 use Rattle.core_types.proofs.Calls.{make-kept, of-call-kept, call-static-kept, start-kept}
 
 module _ (p : Program) (T : Types) (program : ProgramFits p T) where
@@ -229,8 +229,10 @@ module _ (p : Program) (T : Types) (program : ProgramFits p T) where
     where
       there : (os : List Obj) (q : ℕ) → IsThere os q is_object → is_some (slice_get os q) ≡ true
       there os q h = rw h.found refl
+
       h : AllBelong T f.objects (value.Ref r ∷ ts) (need p T (of_unit T f.call.unit) (Enter n b k) [])
       h = subst (λ l. AllBelong T f.objects l (need p T (of_unit T f.call.unit) (Enter n b k) [])) e g.filled
+
       chosen : (x : Bool) → Kept p T false
           (if x then goes (with_temps (with_rest f (Enter n b k)) (value.Ref r ∷ ts)) else take_monitor t (with_temps (with_rest f k) ts) n b r (slice_get f.objects r))
       chosen true = goes-with f (Enter n b k) (Enter n b k) (value.Ref r ∷ ts) g g.going.fits (λ i x. x)
@@ -243,6 +245,7 @@ module _ (p : Program) (T : Types) (program : ProgramFits p T) where
     where
       there : (os : List Obj) (q : ℕ) (o : Obj) → slice_get os q ≡ Some o → is_some (slice_get os q) ≡ true
       there os q o h = rw h refl
+
       chosen : (x : Bool) → Kept p T false
           (if x then goes (with_rest f (EnterClass n c b k)) else take_monitor t (with_rest f k) n b c (slice_get f.objects c))
       chosen true = goes-with f (EnterClass n c b k) (EnterClass n c b k) f.call.temps g g.going.fits (λ i x. x) (λ x. x) g.filled
@@ -309,8 +312,10 @@ module _ (p : Program) (T : Types) (program : ProgramFits p T) where
       let w : Grows f.objects (changed f.objects r exited) = grows-changed f.objects r exited (λ x. refl) in
       record {
         fields = fields-exited f.objects r fields;
-        calls = (result-grows T f.objects (changed f.objects r exited) (result_in T f.call) v w h,
-            beneath-grows p T f.objects (changed f.objects r exited) f.call.gives (result_in T f.call) f.below w b);
+        calls = (
+          result-grows T f.objects (changed f.objects r exited) (result_in T f.call) v w h,
+          beneath-grows p T f.objects (changed f.objects r exited) f.call.gives (result_in T f.call) f.below w b,
+        );
         started = tt;
         ending = refl;
       }
@@ -328,6 +333,10 @@ module _ (p : Program) (T : Types) (program : ProgramFits p T) where
   running-found t f fields holders h =
       next-found t f f.call.rest (record { fields = fields; holders = holders; going = h.0.0; filled = h.0.1; below = h.1 })
 
+  pub leaving-found : (f : Frame) (v : Option Value) → FieldsFit T f.objects → CallsFit p T f.objects (mode.Leaving v) (f.call ∷ f.below)
+      → Kept p T false (leave f v (next_exit f.call.rest))
+  leaving-found f v fields h = leave-found f v (next_exit f.call.rest) fields h.0 h.1
+
   any-ending : (x : Bool) (a : After) → Kept p T x a → Kept p T (is_ending a.mode) a
   any-ending x a k = record { fields = k.fields; calls = k.calls; started = k.started; ending = refl }
 
@@ -336,7 +345,7 @@ module _ (p : Program) (T : Types) (program : ProgramFits p T) where
   move-found t f mode.Running fields holders h =
       any-ending (faults f.call.rest f.call.temps) (next p t f f.call.rest) (running-found t f fields holders h)
   move-found t f (mode.Leaving v) fields holders h =
-      any-ending false (leave f v (next_exit f.call.rest)) (leave-found f v (next_exit f.call.rest) fields h.0 h.1)
+      any-ending false (leave f v (next_exit f.call.rest)) (leaving-found f v fields h)
   move-found t f mode.Ending fields holders h = unwind-found f (next_exit f.call.rest) fields
   move-found t f mode.Over fields holders h = absurd h
 

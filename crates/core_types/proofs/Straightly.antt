@@ -1,12 +1,12 @@
 -- The instructions that begin no call and have no code inside keep calls well typed.
-use Rattle.std.proofs.Common.{◌≡◌, ◌<◌, ℕ, ℤ, zero, suc, pos, int_rem, ◌==◌, ◌||◌, ◌&&◌, not, ⊎_elim, Bool, true, false, if◌then◌else◌, List, [], ◌∷◌, ◌++◌, Option, Some, None, length, slice_get, slice_set, drop, is_some, nat_lt, refl, sym, ap, ◌∙◌, subst, arith, length-set}
+use Rattle.std.proofs.Common.{◌≡◌, ◌<◌, ℕ, ℤ, zero, suc, pos, int_rem, ◌==◌, ◌&&◌, not, ⊎_elim, Bool, true, false, if◌then◌else◌, List, [], ◌∷◌, ◌++◌, Option, Some, None, length, slice_get, slice_set, drop, is_some, nat_lt, refl, sym, ◌∙◌, subst, arith, length-set}
 use Rattle.std.specs.Ordering.{int_eq}
 use Rattle.std.specs.Int.{w32, int_wrapping_div}
 use Rattle.std.proofs.lemmas.Bool.{lt-ltb}
 use Rattle.std.proofs.lemmas.Bool.Decides.{eqb_tells}
 use Rattle.core_model.specs.Code.{Code, Do}
-use Rattle.core_model.specs.Frames.{with_objects, with_temps, with_rest, after, goes, ends, push, push_if}
-use Rattle.core_model.specs.Straight.{get, set_from, with_local, drop_from, read, field_from, keep_from, write, put_on, put_from, put_static_from, operate_from, neg_from, not_from}
+use Rattle.core_model.specs.Frames.{with_objects, with_temps, with_rest, goes, ends, push, push_if}
+use Rattle.core_model.specs.Straight.{get, set_from, with_local, drop_from, read, field_from, keep_from, write, put_from, put_static_from, operate_from, neg_from, not_from}
 use Rattle.core_model.specs.Calling.{make_plain}
 use Rattle.core_model.specs.Objects.{field_at, with_field, changed, fresh_object}
 use Rattle.core_model.specs.Operators.{operated, negated}
@@ -18,19 +18,17 @@ use Rattle.core_model.specs.declared.instr.Op.TheVariants as op
 use Rattle.core_model.specs.declared.instr.Plain.TheVariants as plain
 use Rattle.core_model.specs.declared.program.Program.{Program}
 use Rattle.core_model.specs.declared.object.Obj.{Obj}
-use Rattle.core_model.specs.declared.config.Call.{Call}
-use Rattle.core_model.specs.declared.config.Mode.TheVariants as mode
 use Rattle.core_model.specs.declared.config.Thread.{Thread}
 use Rattle.core_model.specs.declared.frame.Frame.{Frame}
 use Rattle.core_model.specs.declared.frame.After.{After}
 use Rattle.core_model.specs.declared.value.Value.{Value}
 use Rattle.core_model.specs.declared.value.Value.TheVariants as value
 use Rattle.core_types.specs.Types.{Ty, IntType, BoolType, TextType, NullType, ObjectType, ClassType, AnyType, Types, of_class, of_unit, locals_of}
-use Rattle.core_types.specs.Belonging.{is_int, Belongs, AllBelong, Suits}
-use Rattle.core_types.specs.Uses.{Use, pushed, popped, field_read, field_kept, field_written, of_field, of_const, of_op, use_of}
-use Rattle.core_types.specs.Need.{need, need_of, AllSuit, UseFits, Fits}
+use Rattle.core_types.specs.Belonging.{is_int, Belongs, AllBelong}
+use Rattle.core_types.specs.Uses.{pushed, popped, field_read, field_kept, field_written, of_field, of_const, of_op}
+use Rattle.core_types.specs.Need.{need_of, AllSuit, UseFits}
 use Rattle.core_types.specs.Paths.{reads, is_true, true_on_top}
-use Rattle.core_types.specs.Programs.{ProgramFits, Returns}
+use Rattle.core_types.specs.Programs.{ProgramFits}
 use Rattle.core_types.specs.Configs.{FieldsFit, LocalFits, IsGoing, need_in, result_in, BeneathFit, CallsFit, ThreadFits}
 use Rattle.core_types.specs.Faults.{is_ending, null_under, zero_on_top, divides}
 use Rattle.core_types.proofs.Widening.{Grows, Found, push-one, all-grow}
@@ -38,8 +36,7 @@ use Rattle.core_types.proofs.Heaps.{Holders, grows-changed, grows-append, holder
 use Rattle.core_types.proofs.Goings.{going-same, going-known, going-grows, beneath-grows, returns-on}
 use Rattle.core_types.proofs.Codes.{ends-known}
 use Rattle.core_types.proofs.Fields.{FieldAt, read-found, found-some, fields-written, own-at, static-at}
-use Rattle.core_laws.proofs.Owners.{get-set, get-other}
-use Rattle.core_laws.specs.Shape.{kind_of}
+use Rattle.core_laws.proofs.Owners.{get-other}
 
 pub get-less : {A : Type 0} (xs : List A) (i : ℕ) (x : A) → slice_get xs i ≡ Some x → i < length xs
 get-less [] i x e = absurd (let no : ⊥ = cc in no)
@@ -115,24 +112,52 @@ module _ (p : Program) (T : Types) (program : ProgramFits p T) where
       → IsGoing p T f.objects (is_true v) f.call → BeneathFit p T f.objects f.call.gives (result_in T f.call) f.below
       → Kept p T false (push f v)
   const-kept f (value.Int x) s h fields g below = record {
-    fields = fields; started = tt; ending = refl;
-    calls = ((going-same p T f.objects f.call false (value.Int x ∷ f.call.temps) g,
-        push-one T f.objects (value.Int x) IntType f.call.temps (need_in p T f.call) s refl h), below);
+    fields = fields;
+    started = tt;
+    ending = refl;
+    calls = (
+      (
+        going-same p T f.objects f.call false (value.Int x ∷ f.call.temps) g,
+        push-one T f.objects (value.Int x) IntType f.call.temps (need_in p T f.call) s refl h,
+      ),
+      below,
+    );
   }
   const-kept f (value.Bool b) s h fields g below = record {
-    fields = fields; started = tt; ending = refl;
-    calls = ((going-same p T f.objects f.call b (value.Bool b ∷ f.call.temps) g,
-        push-one T f.objects (value.Bool b) BoolType f.call.temps (need_in p T f.call) s refl h), below);
+    fields = fields;
+    started = tt;
+    ending = refl;
+    calls = (
+      (
+        going-same p T f.objects f.call b (value.Bool b ∷ f.call.temps) g,
+        push-one T f.objects (value.Bool b) BoolType f.call.temps (need_in p T f.call) s refl h,
+      ),
+      below,
+    );
   }
   const-kept f (value.Str x) s h fields g below = record {
-    fields = fields; started = tt; ending = refl;
-    calls = ((going-same p T f.objects f.call false (value.Str x ∷ f.call.temps) g,
-        push-one T f.objects (value.Str x) TextType f.call.temps (need_in p T f.call) s refl h), below);
+    fields = fields;
+    started = tt;
+    ending = refl;
+    calls = (
+      (
+        going-same p T f.objects f.call false (value.Str x ∷ f.call.temps) g,
+        push-one T f.objects (value.Str x) TextType f.call.temps (need_in p T f.call) s refl h,
+      ),
+      below,
+    );
   }
   const-kept f value.Null s h fields g below = record {
-    fields = fields; started = tt; ending = refl;
-    calls = ((going-same p T f.objects f.call false (value.Null ∷ f.call.temps) g,
-        push-one T f.objects value.Null NullType f.call.temps (need_in p T f.call) s refl h), below);
+    fields = fields;
+    started = tt;
+    ending = refl;
+    calls = (
+      (
+        going-same p T f.objects f.call false (value.Null ∷ f.call.temps) g,
+        push-one T f.objects value.Null NullType f.call.temps (need_in p T f.call) s refl h,
+      ),
+      below,
+    );
   }
   const-kept f (value.Ref r) s h fields g below = absurd s
 
@@ -347,6 +372,7 @@ module _ (p : Program) (T : Types) (program : ProgramFits p T) where
       first : (T : Types) (t u : Ty) (ns : List Ty) → AllSuit T (t ∷ u ∷ []) ns → AllSuit T (t ∷ []) ns
       first T t u [] s = absurd s
       first T t u (n ∷ ns) s = (s.0, tt)
+
       under : (T : Types) (t : Ty) (os : List Obj) (v : Value) (u : Ty) (vs : List Value) (ns : List Ty) → AllSuit T (t ∷ u ∷ []) ns
           → Belongs T os v u → AllBelong T os vs (drop 2 ns) → AllBelong T os (v ∷ vs) (drop 1 ns)
       under T t os v u vs [] s b h = absurd s

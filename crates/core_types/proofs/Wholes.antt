@@ -1,16 +1,14 @@
 -- Steps and beginnings of whole configurations.
-use Rattle.std.proofs.Common.{◌≡◌, ℕ, zero, suc, ◌+◌, ◌<◌, Bool, true, false, List, [], ◌∷◌, ◌++◌, Option, Some, None, length, map, replicate, slice_get, slice_set, refl, sym, ap, ◌∙◌, subst, arith}
+use Rattle.std.proofs.Common.{◌≡◌, ℕ, zero, suc, ◌+◌, true, List, [], ◌∷◌, Option, Some, None, length, map, replicate, slice_get, slice_set, refl, sym, ap, ◌∙◌, subst, arith}
 use Rattle.std.specs.Option.{option_to_list}
-use Rattle.core_model.specs.Objects.{new_object, fresh_object, fresh_count, initial_values, static_initials}
-use Rattle.core_model.specs.Units.{unit_number, call_with, call_for, call_of}
+use Rattle.core_model.specs.Objects.{fresh_object, static_initials}
+use Rattle.core_model.specs.Units.{unit_number, call_for, call_of}
 use Rattle.core_model.specs.Begin.{begin, begun_thread, begun_objects, main_thread, holders_from, static_fresh, all_fresh}
-use Rattle.core_model.specs.Step.{moved, put, step_of, step, run}
+use Rattle.core_model.specs.Step.{moved, step_of, step, run}
 use Rattle.core_model.specs.declared.program.Program.{Program}
 use Rattle.core_model.specs.declared.program.ClassInfo.{ClassInfo}
 use Rattle.core_model.specs.declared.object.Obj.{Obj}
-use Rattle.core_model.specs.declared.object.ObjKind.{ObjKind}
 use Rattle.core_model.specs.declared.object.ObjKind.TheVariants as kind
-use Rattle.core_model.specs.declared.config.Call.{Call}
 use Rattle.core_model.specs.declared.config.Config.{Config}
 use Rattle.core_model.specs.declared.config.Thread.{Thread}
 use Rattle.core_model.specs.declared.config.Gives.TheVariants.{Own}
@@ -18,22 +16,22 @@ use Rattle.core_model.specs.declared.frame.After.{After}
 use Rattle.core_model.specs.declared.value.Value.TheVariants as value
 use Rattle.core_laws.specs.Places.{Each}
 use Rattle.core_laws.specs.Marks.{Spined}
-use Rattle.core_laws.specs.Shape.{kind_of, HasItsFields, Shaped}
+use Rattle.core_laws.specs.Shape.{kind_of, HasItsFields}
 use Rattle.core_laws.proofs.Lists.{each-get, each-set, each-append}
 use Rattle.core_laws.proofs.Carried.{kept-step_of, begin-each}
 use Rattle.core_laws.proofs.Spines.{spined-closed}
 use Rattle.core_laws.proofs.Marked.{spined-units, counted-step_of, counted-begin}
 use Rattle.core_laws.proofs.Flows.{there-step}
 use Rattle.core_laws.proofs.Shaping.{kind-step, fields-kept, shaped-run}
-use Rattle.core_types.specs.Types.{Types, of_unit, is_instance, has, args_of}
+use Rattle.core_types.specs.Types.{Types, of_unit, has, args_of}
 use Rattle.core_types.specs.Belonging.{AllBelong}
 use Rattle.core_types.specs.Programs.{MainFits, ProgramFits}
 use Rattle.core_types.specs.Configs.{FieldsFit, ThreadFits, ConfigFits}
 use Rattle.core_types.proofs.Widening.{Grows, all-grow}
-use Rattle.core_types.proofs.Heaps.{Holders, ObjFits, some-is, grows-none, append-each, fresh-fit, fresh-at, get-past, FreshFrom, initials-belong}
+use Rattle.core_types.proofs.Heaps.{ObjFits, some-is, grows-none, append-each, fresh-fit, fresh-at, get-past, FreshFrom, initials-belong}
 use Rattle.core_types.proofs.Goings.{threads-grow}
 use Rattle.core_types.proofs.Fields.{class-is}
-use Rattle.core_types.proofs.Straightly.{StartedFits, Kept}
+use Rattle.core_types.proofs.Straightly.{StartedFits}
 use Rattle.core_types.proofs.Calls.{this-none, begun-fits}
 use Rattle.core_types.proofs.Steps.{moved-kept}
 

@@ -1,5 +1,5 @@
 -- Values keep their types as objects are made and written.
-use Rattle.std.proofs.Common.{◌≡◌, ℕ, zero, suc, ◌||◌, Bool, true, false, List, [], ◌∷◌, ◌++◌, Option, Some, None, length, slice_get, slice_set, refl, take, drop, sym, ap, ◌∙◌}
+use Rattle.std.proofs.Common.{◌≡◌, ℕ, zero, suc, Bool, true, List, [], ◌∷◌, ◌++◌, Option, Some, None, length, slice_get, slice_set, refl, take, drop, ap}
 use Rattle.core_model.specs.declared.object.Obj.{Obj}
 use Rattle.core_model.specs.declared.object.ObjKind.{ObjKind}
 use Rattle.core_model.specs.declared.value.Value.{Value}

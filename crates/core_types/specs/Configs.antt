@@ -1,6 +1,5 @@
 -- Well typed configurations.
 use Rattle.std.specs.Prelude.{◌≡◌, ℕ, Bool, true, false, List, [], ◌∷◌, Option, Some, None, length, slice_get, is_some}
-use Rattle.core_model.specs.Code.{Code}
 use Rattle.core_model.specs.declared.program.Program.{Program}
 use Rattle.core_model.specs.declared.object.Obj.{Obj}
 use Rattle.core_model.specs.declared.object.ObjKind.{ObjKind}
@@ -17,7 +16,7 @@ use Rattle.core_model.specs.declared.value.Value.TheVariants as value
 use Rattle.core_laws.specs.Places.{Each, EveryCall}
 use Rattle.core_laws.specs.Marks.{Spined, Counted}
 use Rattle.core_laws.specs.Shape.{Shaped}
-use Rattle.core_types.specs.Types.{Ty, Types, UnitTypes, of_class, of_unit, locals_of}
+use Rattle.core_types.specs.Types.{Ty, Types, of_class, of_unit, locals_of}
 use Rattle.core_types.specs.Belonging.{Belongs, AllBelong, Suits}
 use Rattle.core_types.specs.Need.{need, Fits}
 use Rattle.core_types.specs.Paths.{reads, true_on_top}

@@ -1,5 +1,5 @@
 -- The temporaries that code needs, with their types, and code whose instructions find what they use.
-use Rattle.std.specs.Prelude.{◌≡◌, ℕ, true, List, [], ◌∷◌, ◌++◌, length, drop, slice_get, is_some}
+use Rattle.std.specs.Prelude.{◌≡◌, true, List, [], ◌∷◌, ◌++◌, length, drop, slice_get, is_some}
 use Rattle.core_model.specs.Code.{Code, Done, Do, If, While, Enter, EnterClass, Exit}
 use Rattle.core_model.specs.declared.program.Program.{Program}
 use Rattle.core_types.specs.Types.{Ty, BoolType, ObjectType, Types, UnitTypes}

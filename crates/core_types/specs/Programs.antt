@@ -11,7 +11,7 @@ use Rattle.core_model.specs.declared.program.Initial.{Initial}
 use Rattle.core_model.specs.declared.program.Initial.TheVariants.{Held, FreshObject}
 use Rattle.core_model.specs.declared.value.Value.TheVariants as value
 use Rattle.core_laws.specs.Marks.{HasNoMarks}
-use Rattle.core_types.specs.Types.{Ty, ObjectType, ClassType, Types, UnitTypes, of_class, of_unit, args_of, locals_of, is_instance, is_runnable, has}
+use Rattle.core_types.specs.Types.{Ty, ObjectType, ClassType, Types, of_class, of_unit, args_of, locals_of, is_instance, is_runnable, has}
 use Rattle.core_types.specs.Belonging.{Belongs, AllBelong, Suits}
 use Rattle.core_types.specs.Need.{need, Fits}
 use Rattle.core_types.specs.Paths.{reads, ends}

@@ -1,5 +1,5 @@
 -- What each instruction takes from the temporaries, and what it pushes.
-use Rattle.std.specs.Prelude.{ℕ, ◌==◌, ◌&&◌, Bool, true, false, List, [], ◌∷◌, Option, Some, None, if◌then◌else◌, slice_get, replicate, reverse}
+use Rattle.std.specs.Prelude.{ℕ, ◌==◌, ◌&&◌, List, [], ◌∷◌, Option, Some, None, if◌then◌else◌, slice_get, replicate, reverse}
 use Rattle.std.specs.Option.{option_to_list}
 use Rattle.core_model.specs.Units.{unit_number}
 use Rattle.core_model.specs.declared.program.TheConstants.{NEW, RUN}
