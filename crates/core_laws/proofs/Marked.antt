@@ -28,12 +28,12 @@ use Rattle.core_model.specs.declared.object.Obj.{Obj}
 use Rattle.core_model.specs.declared.value.Value.{Value}
 use Rattle.core_model.specs.declared.value.Value.TheVariants as value
 use Rattle.core_laws.specs.Places.{again, Each, EveryCall}
-use Rattle.core_laws.specs.Marks.{Unmarked, HasNoMarks, marks_in, marks_in_calls, marks_by, entries_of, AllSettled, Counted}
+use Rattle.core_laws.specs.Marks.{Unmarked, Spined, HasNoMarks, marks_in, marks_in_calls, marks_by, entries_of, AllSettled, Counted}
 use Rattle.core_laws.proofs.Lists.{each-get}
 use Rattle.core_laws.proofs.Owners.{get-set, get-other, SameMonitors, same-write, same-made, same-fresh, Free, free-entries, free-settled, free-fresh, Counts, counts-entered, counts-exited}
 use Rattle.core_laws.proofs.Plains.{IsKeeping, kept-plain}
 use Rattle.core_laws.proofs.Carried.{Has, UnitsHave, kept-step_of, begin-each}
-use Rattle.core_laws.proofs.Spines.{Spined, unmarked-spined, spined-closed, unmarked-none, marks-append, marks_from, marks-next}
+use Rattle.core_laws.proofs.Spines.{unmarked-spined, spined-closed, unmarked-none, marks-append, marks_from, marks-next}
 
 abbrev IfUnmarked : Option Call → Type 0
 IfUnmarked None = Unit {0}
@@ -295,10 +295,10 @@ counted-put p bare c t now a e w k = record {
 }
 
 module _ (p : Program) (bare : HasNoMarks p) where
-  spined-units : UnitsHave (λ _. Spined) p
+  pub spined-units : UnitsHave (λ _. Spined) p
   spined-units u code e = unmarked-spined code.code (bare u code e)
 
-  counted-step_of : (c : Config) (t : ℕ) (o : Option Thread) → slice_get c.threads t ≡ o → EveryCall (Has (λ _. Spined)) c.threads → Counted c
+  pub counted-step_of : (c : Config) (t : ℕ) (o : Option Thread) → slice_get c.threads t ≡ o → EveryCall (Has (λ _. Spined)) c.threads → Counted c
       → Counted (step_of p c t o)
   counted-step_of c t None e sp w = w
   counted-step_of c t (Some now) e sp w =
@@ -329,10 +329,12 @@ module _ (p : Program) (bare : HasNoMarks p) where
   begun-marks (c ∷ mains) zero r = main-marks _ r (begun p bare 0 [] (unit_number p c 1 1) (value.Null ∷ []) Own)
   begun-marks (c ∷ mains) (suc s) r = begun-marks mains s r
 
+  pub counted-begin : (mains : List ℕ) → Counted (begin p mains)
+  counted-begin mains = record {
+    exact = λ s r. begun-marks mains s r ∙ sym (free-entries (begun_objects p.classes) s r (free-begun p.classes));
+    settled = free-settled (begun_objects p.classes) (free-begun p.classes);
+  }
+
   pub counted-whole : (mains schedule : List ℕ) → Counted (run p (begin p mains) schedule)
   counted-whole mains schedule =
-      counted-run (begin p mains) schedule (begin-each (λ _. Spined) (λ _. spined-closed) p spined-units mains)
-      (record {
-        exact = λ s r. begun-marks mains s r ∙ sym (free-entries (begun_objects p.classes) s r (free-begun p.classes));
-        settled = free-settled (begun_objects p.classes) (free-begun p.classes);
-      })
+      counted-run (begin p mains) schedule (begin-each (λ _. Spined) (λ _. spined-closed) p spined-units mains) (counted-begin mains)

@@ -7,7 +7,7 @@ use Rattle.core_model.specs.declared.config.Config.{Config}
 use Rattle.core_model.specs.declared.config.Thread.{Thread}
 use Rattle.core_laws.proofs.Owners.{get-other}
 
-get-front : {A : Type 0} (xs ys : List A) (s : ℕ) (x : A) → slice_get xs s ≡ Some x → slice_get (xs ++ ys) s ≡ Some x
+pub get-front : {A : Type 0} (xs ys : List A) (s : ℕ) (x : A) → slice_get xs s ≡ Some x → slice_get (xs ++ ys) s ≡ Some x
 get-front [] ys s x e = absurd (let no : ⊥ = cc in no)
 get-front (y ∷ xs) ys zero x e = e
 get-front (y ∷ xs) ys (suc s) x e = get-front xs ys s x e

@@ -19,7 +19,7 @@ use Rattle.core_laws.proofs.Flows.{IsKept, there-step, there-run}
 
 -- ---- what an object is stays
 
-change-kind : (os : List Obj) (r q : ℕ) (o : Option Obj) (f : Obj → Obj) → ((x : Obj) → (f x).kind ≡ x.kind) → slice_get os r ≡ o
+pub change-kind : (os : List Obj) (r q : ℕ) (o : Option Obj) (f : Obj → Obj) → ((x : Obj) → (f x).kind ≡ x.kind) → slice_get os r ≡ o
     → kind_of (slice_get (put_for os r o f) q) ≡ kind_of (slice_get os q)
 change-kind os r q None f same e = refl
 change-kind os r q (Some o) f same e =
@@ -27,7 +27,7 @@ change-kind os r q (Some o) f same e =
     ∙ ap kind_of (get-set os r o (f o) e) ∙ ap Some (same o) ∙ sym (ap kind_of e) ∙ ap (λ (i : ℕ). kind_of (slice_get os i)) y.1)
     (λ no. ap kind_of (get-other os r q (f o) no.1)) (eqb_tells r q)
 
-append-kind : (os ns : List Obj) (q : ℕ) (k : ObjKind) → kind_of (slice_get os q) ≡ Some k → kind_of (slice_get (os ++ ns) q) ≡ Some k
+pub append-kind : (os ns : List Obj) (q : ℕ) (k : ObjKind) → kind_of (slice_get os q) ≡ Some k → kind_of (slice_get (os ++ ns) q) ≡ Some k
 append-kind [] ns q k e = absurd (let no : ⊥ = cc in no)
 append-kind (o ∷ os) ns zero k e = e
 append-kind (o ∷ os) ns (suc q) k e = append-kind os ns q k e
@@ -91,7 +91,7 @@ made-fit : (p : Program) (n c : ℕ) (info : ClassInfo) → slice_get p.classes 
 made-fit p n c info e =
     initials-long n false info.fields ∙ sym (ap (λ (o : Option ClassInfo). length (of_kind false (class_fields o))) e)
 
-fields-kept : (p : Program) → IsKept p (HasItsFields p)
+pub fields-kept : (p : Program) → IsKept p (HasItsFields p)
 fields-kept p = record {
   write = λ os q i v g. change-fields p os q (slice_get os q) (λ o. with_field o i v) (λ x h. length-set x.fields i v ∙ h) refl g;
   enter = λ os q t g. change-fields p os q (slice_get os q) (entered t) (λ x h. h) refl g;

@@ -3,17 +3,8 @@ use Rattle.std.proofs.Common.{◌≡◌, ℕ, ◌+◌, ◌==◌, Option, Some, N
 use Rattle.core_model.specs.Code.{Code, Done, Do, If, While, Enter, EnterClass, Exit, ◌⧺◌}
 use Rattle.core_model.specs.Step.{next_exit}
 use Rattle.core_laws.specs.Places.{again}
-use Rattle.core_laws.specs.Marks.{Unmarked, marks_in}
+use Rattle.core_laws.specs.Marks.{Unmarked, Spined, marks_in}
 use Rattle.core_laws.proofs.Carried.{IsClosed}
-
-abbrev pub Spined : Code → Type 0
-Spined Done = Unit {0}
-Spined (Do n p k) = Spined k
-Spined (If n a b k) = Unmarked a × Unmarked b × Spined k
-Spined (While n c b k) = Unmarked c × Unmarked b × Spined k
-Spined (Enter n b k) = Unmarked b × Spined k
-Spined (EnterClass n c b k) = Unmarked b × Spined k
-Spined (Exit n r k) = Spined k
 
 pub unmarked-spined : (k : Code) → Unmarked k → Spined k
 unmarked-spined Done h = tt

@@ -18,6 +18,16 @@ Unmarked (Enter n b k) = Unmarked b × Unmarked k
 Unmarked (EnterClass n c b k) = Unmarked b × Unmarked k
 Unmarked (Exit n r k) = ⊥
 
+-- marks stand in the code itself, never inside an instruction
+abbrev pub Spined : Code → Type 0
+Spined Done = Unit {0}
+Spined (Do n p k) = Spined k
+Spined (If n a b k) = Unmarked a × Unmarked b × Spined k
+Spined (While n c b k) = Unmarked c × Unmarked b × Spined k
+Spined (Enter n b k) = Unmarked b × Spined k
+Spined (EnterClass n c b k) = Unmarked b × Spined k
+Spined (Exit n r k) = Spined k
+
 -- no code of the program has a mark
 abbrev pub HasNoMarks : Program → Type 0
 HasNoMarks p = (u : ℕ) (code : UnitCode) → slice_get p.units u ≡ Some code → Unmarked code.code

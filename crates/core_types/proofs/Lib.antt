@@ -1,0 +1,10 @@
+pub mod Widening
+pub mod Codes
+pub mod Heaps
+pub mod Goings
+pub mod Fields
+pub mod Straightly
+pub mod Calls
+pub mod Steps
+pub mod Wholes
+pub mod Outcomes

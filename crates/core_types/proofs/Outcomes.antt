@@ -1,0 +1,200 @@
+-- Which mode a step leaves its thread in.
+use Rattle.std.proofs.Common.{◌≡◌, ℕ, Bool, true, false, List, [], ◌∷◌, Option, Some, None, slice_get, slice_set, refl, sym, ap, ◌∙◌, subst}
+use Rattle.std.specs.Option.{option_to_list}
+use Rattle.core_model.specs.Code.{Code, Done, Do, If, While, Enter, EnterClass, Exit}
+use Rattle.core_model.specs.Frames.{with_temps, with_rest, goes}
+use Rattle.core_model.specs.Straight.{branch_from}
+use Rattle.core_model.specs.Calling.{begins, start_with}
+use Rattle.core_model.specs.Monitors.{take_monitor, enter_from, enter_class}
+use Rattle.core_model.specs.Objects.{blocks}
+use Rattle.core_model.specs.Units.{call_of}
+use Rattle.core_model.specs.Step.{given, left, dropped, next, next_exit, leave, unwind, move, moved, step_of, step}
+use Rattle.core_model.specs.declared.instr.Note.{Note}
+use Rattle.core_model.specs.declared.program.Program.{Program}
+use Rattle.core_model.specs.declared.object.Obj.{Obj}
+use Rattle.core_model.specs.declared.config.Call.{Call}
+use Rattle.core_model.specs.declared.config.Config.{Config}
+use Rattle.core_model.specs.declared.config.Gives.TheVariants.{Own}
+use Rattle.core_model.specs.declared.config.Mode.{Mode}
+use Rattle.core_model.specs.declared.config.Mode.TheVariants as mode
+use Rattle.core_model.specs.declared.config.Thread.{Thread}
+use Rattle.core_model.specs.declared.frame.Frame.{Frame}
+use Rattle.core_model.specs.declared.frame.After.{After}
+use Rattle.core_model.specs.declared.value.Value.{Value}
+use Rattle.core_model.specs.declared.value.Value.TheVariants as value
+use Rattle.core_laws.proofs.Lists.{each-get}
+use Rattle.core_laws.proofs.Owners.{get-set}
+use Rattle.core_laws.proofs.Others.{get-front}
+use Rattle.core_laws.proofs.Plains.{IsKeeping, kept-plain, kept-if}
+use Rattle.core_types.specs.Types.{Types}
+use Rattle.core_types.specs.Configs.{CallsFit, ThreadFits, ConfigFits}
+use Rattle.core_types.specs.Faults.{faults, is_ending_thread, is_over, is_over_thread, is_clear, leaves_last}
+use Rattle.core_types.proofs.Steps.{running-found, leaving-found, moved-kept}
+
+abbrev after_of : After → Thread
+after_of a = record { calls = a.calls; mode = a.mode }
+
+-- the thread that stepped has what the step leaves
+thread-after : (p : Program) (c : Config) (t : ℕ) (h : Thread) → slice_get c.threads t ≡ Some h
+    → slice_get (step p c t).threads t ≡ Some (after_of (moved p t c.objects h h.calls))
+thread-after p c t h e =
+    let a : After = moved p t c.objects h h.calls in
+    let there : slice_get (step_of p c t (Some h)).threads t ≡ Some (after_of a) =
+    get-front (slice_set c.threads t (after_of a)) (option_to_list a.started) t (after_of a) (get-set c.threads t h (after_of a) e) in
+    subst (λ o. slice_get (step_of p c t o).threads t ≡ Some (after_of a)) (sym e) there
+
+found-thread : (p : Program) (T : Types) (c : Config) (t : ℕ) (h : Thread) → ConfigFits p T c → slice_get c.threads t ≡ Some h → ThreadFits p T c.objects h
+found-thread p T c t h w e = each-get (λ (x : Thread). ThreadFits p T c.objects x) c.threads t h e w.threads
+
+pub ends-by-fault : (p : Program) (T : Types) (c : Config) (t : ℕ) (call : Call) (below : List Call) → ConfigFits p T c
+    → slice_get c.threads t ≡ Some (record { calls = call ∷ below; mode = mode.Running })
+    → is_ending_thread (slice_get (step p c t).threads t) ≡ faults call.rest call.temps
+ends-by-fault p T c t call below w e =
+    ap is_ending_thread (thread-after p c t _ e)
+    ∙ (running-found p T w.program t (record { objects = c.objects; call = call; below = below }) w.fields w.shaped.holders (found-thread p T c t _ w e)).ending
+
+pub never-ends : (p : Program) (T : Types) (c : Config) (t : ℕ) (call : Call) (below : List Call) (v : Option Value) → ConfigFits p T c
+    → slice_get c.threads t ≡ Some (record { calls = call ∷ below; mode = mode.Leaving v })
+    → is_ending_thread (slice_get (step p c t).threads t) ≡ false
+never-ends p T c t call below v w e =
+    ap is_ending_thread (thread-after p c t _ e)
+    ∙ (leaving-found p T w.program (record { objects = c.objects; call = call; below = below }) v w.fields (found-thread p T c t _ w e)).ending
+
+-- ---- threads that are over
+
+abbrev has_calls : List Call → Bool
+has_calls [] = false
+has_calls (c ∷ cs) = true
+
+abbrev HasCalls : After → Type 0
+HasCalls a = has_calls a.calls ≡ true
+
+abbrev Any : Frame → Type 0
+Any f = Unit {0}
+
+begins-has : (f : Frame) (o : Option Call) → HasCalls (begins f o)
+begins-has f None = refl
+begins-has f (Some c) = refl
+
+starts-has : (f : Frame) (o : Option Call) → HasCalls (start_with f o)
+starts-has f None = refl
+starts-has f (Some c) = refl
+
+keeping : (p : Program) → IsKeeping p Any HasCalls
+keeping p = record {
+  after = λ f m g. refl;
+  temps = λ f ts g. tt;
+  local = λ f i v g. tt;
+  write = λ f r i v g. tt;
+  fresh = λ f g. tt;
+  make = λ f c info e g. tt;
+  begins = λ f u args h g. begins-has f (call_of p u args h);
+  starts = λ f u args g. starts-has f (call_of p u args Own);
+}
+
+branch-has : (f : Frame) (a b : Code) (ts : List Value) → HasCalls (branch_from f a b ts)
+branch-has f a b [] = refl
+branch-has f a b (value.Int n ∷ ts) = refl
+branch-has f a b (value.Bool c ∷ ts) = refl
+branch-has f a b (value.Str s ∷ ts) = refl
+branch-has f a b (value.Null ∷ ts) = refl
+branch-has f a b (value.Ref r ∷ ts) = refl
+
+take-has : (t : ℕ) (f : Frame) (n : Note) (b : Code) (r : ℕ) (o : Option Obj) → HasCalls (take_monitor t f n b r o)
+take-has t f n b r None = refl
+take-has t f n b r (Some o) = refl
+
+enter-has : (p : Program) (t : ℕ) (f : Frame) (n : Note) (b : Code) (ts : List Value) → HasCalls (enter_from t f n b ts)
+enter-has p t f n b [] = refl
+enter-has p t f n b (value.Int i ∷ ts) = refl
+enter-has p t f n b (value.Bool c ∷ ts) = refl
+enter-has p t f n b (value.Str s ∷ ts) = refl
+enter-has p t f n b (value.Null ∷ ts) = refl
+enter-has p t f n b (value.Ref r ∷ ts) =
+    kept-if p Any HasCalls (keeping p) (blocks t (slice_get f.objects r)) (goes (with_temps (with_rest f (Enter n b f.call.rest)) (value.Ref r ∷ ts)))
+    (take_monitor t (with_temps f ts) n b r (slice_get f.objects r)) refl (take-has t (with_temps f ts) n b r (slice_get f.objects r))
+
+class-has : (p : Program) (t : ℕ) (f : Frame) (n : Note) (c : ℕ) (b : Code) → HasCalls (enter_class t f n c b)
+class-has p t f n c b =
+    kept-if p Any HasCalls (keeping p) (blocks t (slice_get f.objects c)) (goes (with_rest f (EnterClass n c b f.call.rest)))
+    (take_monitor t f n b c (slice_get f.objects c)) refl (take-has t f n b c (slice_get f.objects c))
+
+-- a thread that has calls isn't over
+not-over : (p : Program) (T : Types) (os : List Obj) (m : Mode) (cs : List Call) → has_calls cs ≡ true → CallsFit p T os m cs → is_over m ≡ false
+not-over p T os mode.Running cs h g = refl
+not-over p T os (mode.Leaving v) cs h g = refl
+not-over p T os mode.Ending cs h g = refl
+not-over p T os mode.Over [] h g = absurd (let no : ⊥ = cc in no)
+not-over p T os mode.Over (c ∷ cs) h g = absurd g
+
+-- nothing is left of a last call only at its end
+never : (m : Mode) (k : Code) (cs : List Call) → leaves_last m k [] ≡ false → leaves_last m k cs ≡ false
+never m k [] h = h
+never m k (c ∷ cs) h = refl
+
+left-over : (os : List Obj) (v : Option Value) (cs : List Call) → is_over (left os v cs).mode ≡ leaves_last mode.Running Done cs
+left-over os v [] = refl
+left-over os v (c ∷ cs) = refl
+
+over-next : (p : Program) (T : Types) (t : ℕ) (f : Frame) (k : Code)
+    → CallsFit p T (next p t f k).objects (next p t f k).mode (next p t f k).calls → is_over (next p t f k).mode ≡ leaves_last mode.Running k f.below
+over-next p T t f Done g = left-over f.objects (given f.call.gives None) f.below
+over-next p T t f (Do n i k) g =
+    not-over p T _ _ (next p t f (Do n i k)).calls (kept-plain p Any HasCalls (keeping p) (with_rest f k) i tt) g ∙ sym (never mode.Running (Do n i k) f.below refl)
+over-next p T t f (If n a b k) g =
+    not-over p T _ _ (next p t f (If n a b k)).calls (branch-has (with_rest f k) a b f.call.temps) g ∙ sym (never mode.Running (If n a b k) f.below refl)
+over-next p T t f (While n c b k) g = sym (never mode.Running (While n c b k) f.below refl)
+over-next p T t f (Enter n b k) g =
+    not-over p T _ _ (next p t f (Enter n b k)).calls (enter-has p t (with_rest f k) n b f.call.temps) g ∙ sym (never mode.Running (Enter n b k) f.below refl)
+over-next p T t f (EnterClass n c b k) g =
+    not-over p T _ _ (next p t f (EnterClass n c b k)).calls (class-has p t (with_rest f k) n c b) g ∙ sym (never mode.Running (EnterClass n c b k) f.below refl)
+over-next p T t f (Exit n r k) g = sym (never mode.Running (Exit n r k) f.below refl)
+
+abbrev is_nothing : Option (ℕ × Code) → Bool
+is_nothing None = true
+is_nothing (Some x) = false
+
+clear-exit : (k : Code) → is_clear k ≡ is_nothing (next_exit k)
+clear-exit Done = refl
+clear-exit (Do n i k) = clear-exit k
+clear-exit (If n a b k) = clear-exit k
+clear-exit (While n c b k) = clear-exit k
+clear-exit (Enter n b k) = clear-exit k
+clear-exit (EnterClass n c b k) = clear-exit k
+clear-exit (Exit n r k) = refl
+
+over-leave : (f : Frame) (v : Option Value) (o : Option (ℕ × Code)) (k : Code) → is_clear k ≡ is_nothing o
+    → is_over (leave f v o).mode ≡ leaves_last (mode.Leaving v) k f.below
+over-leave f v None k e = left-clear f.objects (given f.call.gives v) f.below
+  where
+    left-clear : (os : List Obj) (w : Option Value) (cs : List Call) → is_over (left os w cs).mode ≡ leaves_last (mode.Leaving v) k cs
+    left-clear os w [] = sym e
+    left-clear os w (c ∷ cs) = refl
+over-leave f v (Some (r, l)) k e = sym (never (mode.Leaving v) k f.below e)
+
+over-unwind : (f : Frame) (o : Option (ℕ × Code)) (k : Code) → is_clear k ≡ is_nothing o
+    → is_over (unwind f o).mode ≡ leaves_last mode.Ending k f.below
+over-unwind f None k e = dropped-clear f.objects f.below
+  where
+    dropped-clear : (os : List Obj) (cs : List Call) → is_over (dropped os cs).mode ≡ leaves_last mode.Ending k cs
+    dropped-clear os [] = sym e
+    dropped-clear os (c ∷ cs) = refl
+over-unwind f (Some (r, l)) k e = sym (never mode.Ending k f.below e)
+
+over-move : (p : Program) (T : Types) (t : ℕ) (f : Frame) (m : Mode) → CallsFit p T f.objects m (f.call ∷ f.below)
+    → CallsFit p T (move p t f m).objects (move p t f m).mode (move p t f m).calls
+    → is_over (move p t f m).mode ≡ leaves_last m f.call.rest f.below
+over-move p T t f mode.Running h g = over-next p T t f f.call.rest g
+over-move p T t f (mode.Leaving v) h g = over-leave f v (next_exit f.call.rest) f.call.rest (clear-exit f.call.rest)
+over-move p T t f mode.Ending h g = over-unwind f (next_exit f.call.rest) f.call.rest (clear-exit f.call.rest)
+over-move p T t f mode.Over h g = absurd h
+
+pub over-by-leaving : (p : Program) (T : Types) (c : Config) (t : ℕ) (call : Call) (below : List Call) (m : Mode) → ConfigFits p T c
+    → slice_get c.threads t ≡ Some (record { calls = call ∷ below; mode = m })
+    → is_over_thread (slice_get (step p c t).threads t) ≡ leaves_last m call.rest below
+over-by-leaving p T c t call below m w e =
+    let calls = found-thread p T c t _ w e in
+    let h : Thread = record { calls = call ∷ below; mode = m } in
+    ap is_over_thread (thread-after p c t _ e)
+    ∙ over-move p T t (record { objects = c.objects; call = call; below = below }) m calls
+    (moved-kept p T w.program t c.objects h (call ∷ below) w.fields w.shaped.holders calls).calls

@@ -1,0 +1,12 @@
+use Rattle.core_model.specs.Begin.{begin}
+use Rattle.core_types.proofs.Wholes.{begin-fits, step-fits, run-fits}
+use Rattle.core_types.proofs.typing.types_are_kept.Goals as goal
+
+pub returns-clause-begun : goal.returns-clause-begun
+returns-clause-begun c = begin-fits
+
+pub returns-clause-kept : goal.returns-clause-kept
+returns-clause-kept c = step-fits
+
+pub returns-clause-always : goal.returns-clause-always
+returns-clause-always c = λ p T program mains schedule h. run-fits p T (begin p mains) schedule (begin-fits p T program mains h)

@@ -1,0 +1,11 @@
+//! Types of core code: when a program and a configuration are well typed, and the laws that steps keep
+//! this. It knows core code and its laws, and nothing of Java's text or of promises.
+#![tactic(auto)]
+
+mod ending;
+mod growing;
+mod typing;
+
+pub use ending::threads_end_by_faults;
+pub use growing::code_is_typed_by_parts;
+pub use typing::types_are_kept;
