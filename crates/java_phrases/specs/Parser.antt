@@ -49,6 +49,10 @@ first (x ∷ xs) = Some x
 unfoldable pub next_kind : List Token → Option Kind
 next_kind ts = option_map (λ (t : Token). t.kind) (first ts)
 
+-- where the next token begins, if there is one
+unfoldable pub next_start : List Token → Option ℕ
+next_start ts = option_map (λ (t : Token). t.span.start) (first ts)
+
 abbrev pub peek : Parser (Option Kind)
 peek = λ ts. Found (next_kind ts) ts
 

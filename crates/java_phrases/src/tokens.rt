@@ -71,6 +71,17 @@ impl Tokens {
         }
     }
 
+    /// The place where the next token begins, a byte's offset from 0, if there is one.
+    #[tactic(auto, unfolding(crate::specs::Parser::next_start))]
+    pub fn next_start(&self) -> Option<u32>
+        ensures { result ≡ spec.next_start (ahead self.now) }
+    {
+        match self.first() {
+            Some(token) => Some(token.span.start),
+            None => None,
+        }
+    }
+
     /// Whether the next token is of this kind.
     #[tactic(auto, unfolding(crate::specs::Parser::sees))]
     pub fn sees(&self, kind: Kind) -> bool

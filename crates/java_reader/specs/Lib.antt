@@ -1,1 +1,6 @@
+pub mod Spelling
+pub mod Parts
 pub mod Reads
+pub mod Places
+pub mod Drafts
+pub mod Answers

@@ -1,8 +1,17 @@
-//! Stub.
+//! Reading whole Java files of the subset: which tokens spell which file, the reader for it, and the exact
+//! place of each refusal. It is the public face of reading, and knows nothing of names and types.
 #![tactic(auto)]
 
+mod draft;
 mod error;
+mod file;
+mod laws;
+mod line;
 mod reader;
+#[cfg(test)]
+mod tests;
 
 pub use error::ReadError;
-pub use reader::{one_tree, read_file};
+pub use laws::{one_tree, parts_follow};
+pub use line::line_of;
+pub use reader::read_file;
