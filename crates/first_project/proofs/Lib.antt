@@ -3,3 +3,4 @@ pub mod Lists
 pub mod RepeatMore
 pub mod AsciiTypes
 pub mod Causes
+pub mod OneAnswer

@@ -1,6 +1,7 @@
 -- What files answer, or why they aren't judged.
 use Rattle.std.specs.Prelude.{◌≡◌, ◌⊎◌, ℕ, ◌<◌, ◌≤◌, List, Some, None, All}
 use Rattle.desk_base.specs.Limit.{limit_max}
+use Rattle.desk_base.specs.declared.limit.LimitName.{LimitName}
 use Rattle.desk_base.specs.declared.limit.LimitName.TheVariants as limit
 use Rattle.bundle.specs.Entry.{Entry}
 use Rattle.report.specs.declared.answers.Answers.{Answers}
@@ -63,11 +64,15 @@ pub record Taken (files : List Entry) (P : List TreeFile → Type 0) : Type 0 wh
   pub taken : AreTaken files trees
   pub holds : P trees
 
+-- the limit that stands in the way of judging: of files or bytes, or, where nothing else does, of findings
+abbrev pub IsPassed : List Entry → LimitName → Type 0
+IsPassed files which = (passed_limit files ≡ Some which) ⊎ ((which ≡ limit.Findings) × Taken files IsFull)
+
 -- why the files aren't judged, the first cause of these: a limit of files or bytes, a file that isn't
 -- read, a name that is used twice, a file that isn't of the form, the limit of findings; memory may be
 -- wanting at any files
 abbrev pub IsCauseOf : List Entry → ProjectError → Type 0
-IsCauseOf files (error.Limit which) = (passed_limit files ≡ Some which) ⊎ ((which ≡ limit.Findings) × Taken files IsFull)
+IsCauseOf files (error.Limit which) = IsPassed files which
 IsCauseOf files (error.Unread path why) = (passed_limit files ≡ None) × IsUnread files path.now why
 IsCauseOf files (error.Repeated name first second) = Taken files (λ trees. FirstRepeat (types_of trees) name first second)
 IsCauseOf files (error.Unfit path) = Taken files (λ trees. IsUnfit trees path.now)
