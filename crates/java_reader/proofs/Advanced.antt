@@ -1,5 +1,5 @@
 -- The next token says which sort of part may stand there.
-use Rattle.std.proofs.Common.{◌≡◌, ◌≢◌, Bool, true, false, List, Result, Ok, Err, Some, None, refl, ◌∙◌, sym}
+use Rattle.std.proofs.Common.{◌≡◌, ◌≢◌, Bool, true, false, List, [], ◌∷◌, ◌++◌, Result, Ok, Err, Some, None, refl, ap, ◌∙◌, sym}
 use Rattle.java_tree.specs.declared.kind.Kind.TheVariants as k
 use Rattle.java_tree.specs.declared.token.Token.{Token}
 use Rattle.java_tree.specs.declared.member.MemberTree.{MemberTree}
@@ -16,7 +16,7 @@ use Rattle.java_heads.proofs.Lists.{sees-kind, mark-complete}
 use Rattle.java_reader.specs.declared.draft.Draft.{Draft}
 use Rattle.java_reader.specs.Parts.{Part, PackageLine, ImportLine, Opening, Inner, Closing, PartSpells}
 use Rattle.java_reader.specs.Answers.{Adds, Advances}
-use Rattle.java_reader.specs.Drafts.{between, within, stage_of}
+use Rattle.java_reader.specs.Drafts.{file_of, between, within, stage_of}
 use Rattle.java_reader.proofs.Fronts.{package-front, import-front, header-front, member-front}
 use Rattle.java_reader.proofs.Drafted.{inner-none, closing-none}
 
@@ -87,3 +87,7 @@ inner-no file c ts l Closing b none (ok, s) = differ (sees k.RBrace ts) (brace-s
 pub inner-advances : (file : FileTree) (c : ClassTree) (ts rest : List Token) (r : Result Draft SyntaxError) → sees k.RBrace ts ≡ false → Adds Inner (within file c) ts r rest → Advances (within file c) ts r rest
 inner-advances file c ts rest (Ok new) b (m, s, is) = (Inner m, s, is)
 inner-advances file c ts rest (Err e) b none = λ other part l s. inner-no file c ts l part b (none other) s
+
+pub closed-draft : (file : FileTree) (c : ClassTree) (types : List ClassTree) → types ≡ file.types ++ c ∷ []
+    → between (file_of file.«package» file.imports types) ≡ between (file_of file.«package» file.imports (file.types ++ c ∷ []))
+closed-draft file c types e = ap (λ l. between (file_of file.«package» file.imports l)) e

@@ -9,6 +9,8 @@ use Rattle.java_reader.specs.declared.error.ReadError.{ReadError}
 use Rattle.java_reader.specs.declared.error.ReadError.TheVariants as error
 use Rattle.java_reader.specs.Spelling.{Spells}
 use Rattle.java_reader.specs.Reads.{Reads, IsTooLongAt, IsLexAt, IsLongNameAt, IsGrammarAt, IsLimitAt, IsCauseOf, first_long_name, place_of, Gives, Refuses}
+use Rattle.desk_base.specs.Limit.{limit_max}
+use Rattle.java_reader.specs.Answers.{IsTokenCause}
 use Rattle.java_reader.specs.Parts.{LeftByLongest}
 use Rattle.java_reader.proofs.Unique.{one-left}
 use Rattle.java_reader.proofs.Spelled.{one-file}
@@ -29,6 +31,15 @@ view text (error.Limit which at) h other = limit-view which at text h
 view text (error.Lex at) h other = lexical at refl h
 view text (error.Grammar at) h other = grammar at refl h
 view text error.OutOfMemory h other = absurd (other refl)
+
+-- the causes that tokens have
+pub text-cause : (text : List ℕ) (tokens : List Token) (r : Result FileTree ReadError) → length text ≤ limit_max limit.FileBytes → Lexes text tokens → IfErr r (IsTokenCause (length text) tokens) → IfErr r (IsCauseOf text)
+text-cause text tokens (Ok tree) fits lexed h = tt
+text-cause text tokens (Err error.OutOfMemory) fits lexed h = tt
+text-cause text tokens (Err (error.Lex at)) fits lexed none = absurd none
+text-cause text tokens (Err (error.Grammar at)) fits lexed (names, fault) = record { fits = fits; tokens = tokens; lexed = lexed; names = names; fault = fault }
+text-cause text tokens (Err (error.Limit limit.NameBytes at)) fits lexed (name, first, place) = record { fits = fits; tokens = tokens; lexed = lexed; name = name; first = first; place = place }
+text-cause text tokens (Err (error.Limit _ at)) fits lexed none = absurd none
 
 module _ (list : (text : List ℕ) (first second : List Token) → Lexes text first → Lexes text second → first ≡ second)
     (place : (text : List ℕ) (first second : ℕ) → LexAt text first → LexAt text second → first ≡ second)

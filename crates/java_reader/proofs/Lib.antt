@@ -6,3 +6,4 @@ pub mod Spelled
 pub mod Causes
 pub mod Order
 pub mod Advanced
+pub mod Looped
