@@ -1,5 +1,5 @@
 -- One ending for the bundle that some bytes are.
-use Rattle.std.proofs.Common.{◌≡◌, ◌≢◌, inl, inr, ℕ, Bool, true, false, List, [], ◌∷◌, ◌++◌, map, refl, ap, sym, ◌∙◌, subst, arith, append-nil, suc, Option, Some, None}
+use Rattle.std.proofs.Common.{◌≡◌, ◌≢◌, inl, inr, ℕ, Bool, true, false, List, [], ◌∷◌, ◌++◌, map, refl, ap, sym, ◌∙◌, subst, arith, append-nil, suc, Option, Some, None, Result, Ok, Err, IfOk}
 use Rattle.std.specs.List.{All, Contains}
 use Rattle.std.specs.Option.{IfSome}
 use Rattle.std.proofs.lemmas.List.Elements.{All-contains, All-map}
@@ -14,11 +14,14 @@ use Rattle.first_project.specs.Answers.{Taken, IsUnfit, IsPassed}
 use Rattle.first_project.proofs.OneAnswer.{OneTree, answered_unread, answered_unfit, answered_repeat, answered_passed}
 use Rattle.promise_desk.specs.declared.status.Status.{Status}
 use Rattle.promise_desk.specs.declared.status.Status.TheVariants as status
-use Rattle.promise_desk.specs.Check.{AnswersOf, Checks, is_inconsistent}
+use Rattle.promise_desk.specs.Check.{AnswersOf, Checks, IsTaken, is_inconsistent}
+use Rattle.desk_base.specs.declared.limit.LimitName.{LimitName}
 use Rattle.desk_base.specs.declared.limit.LimitName.TheVariants as limit
+use Rattle.desk_base.specs.declared.memory.OutOfMemory.{OutOfMemory}
+use Rattle.promise_desk.specs.declared.check.Ending.{Ending}
 use Rattle.promise_desk.specs.Intake.{WasTooLong}
 use Rattle.promise_desk.specs.Status.{code_of, limit_line}
-use Rattle.promise_desk.specs.Endings.{status_of, status_with, CheckEnds, IsReport, RunEnds, IsReportOrMemory}
+use Rattle.promise_desk.specs.Endings.{EndsAs, text_of, status_of, status_with, CheckEnds, IsReport, RunEnds, IsReportOrMemory}
 
 report_by : (bytes : List ℕ) (answers : Answers) (text : List ℕ) (b : Bool) → is_inconsistent answers ≡ b → AnswersOf bytes answers → text ≡ report_bytes answers → Checks bytes (status_with b) text
 report_by bytes answers text true is of same = (answers, of, is, same)
@@ -90,3 +93,11 @@ run_completes tree check left after rose status.Unreadable text bytes answers on
 run_completes tree check left after rose status.DuplicateType text bytes answers one asked told of quiet ends =
     let P : Option (List ℕ) → Type 0 = λ l. IfSome l (λ b. Checks b status.DuplicateType text × (after ≡ Some [])) in
     absurd (reported tree bytes answers status.DuplicateType text one of (subst P told ends.1).0)
+
+-- the line of a limit that the files pass is what a check gives
+pub limit_ends : (bytes : List ℕ) (files : List Entry) (which : LimitName) (r : Result Ending OutOfMemory) → IsTaken files bytes → IsPassed files which
+    → IfOk r (λ e. (e.status ≡ status.Limit) × (text_of e.text ≡ limit_line which)) → IfOk r (EndsAs bytes)
+limit_ends bytes files which (Ok e) taken passed made =
+    let P : Status → Type 0 = λ s. Checks bytes s (text_of e.text) in
+    subst P (sym made.0) (which, inr (files, taken, passed), made.1)
+limit_ends bytes files which (Err e) taken passed made = tt
