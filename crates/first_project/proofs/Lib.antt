@@ -1,4 +1,6 @@
-pub mod Ascii
-pub mod ReadMore
-pub mod RepeatMore
 pub mod LimitMore
+pub mod Lists
+pub mod RepeatMore
+pub mod AsciiTypes
+pub mod Causes
+pub mod OneAnswer

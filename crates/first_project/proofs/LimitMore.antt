@@ -6,7 +6,7 @@ use Rattle.bundle.specs.Entry.{Entry}
 use Rattle.bundle.specs.declared.entry.FileEntry.{FileEntry}
 use Rattle.desk_base.specs.declared.limit.LimitName.TheVariants as limit
 use Rattle.desk_base.specs.Limit.{limit_max}
-use Rattle.first_project.specs.Classes.{files_of}
+use Rattle.first_project.specs.Kept.{files_of}
 use Rattle.first_project.specs.Limits.{passed_limit}
 
 pub long_file : (most : ℕ) (files : List FileEntry) → list_any (λ (e : Entry). nat_lt most (length e.text)) (files_of files) ≡ list_any (λ (f : FileEntry). nat_lt most (length f.text.now)) files

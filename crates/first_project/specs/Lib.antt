@@ -1,6 +1,7 @@
 pub mod Limits
-pub mod Files
+pub mod Order
+pub mod Trees
 pub mod Repeats
-pub mod Classes
+pub mod Form
+pub mod Kept
 pub mod Answers
-pub mod Leasts

@@ -1,10 +1,14 @@
-//! The files of a bundle as one project: their limits, what they read as, names that are used twice, and
-//! the answers on them. It knows nothing of how a bundle is written, nor of reports.
+//! The files of a bundle as one project: their limits, what they read as, names that are used twice, the
+//! form of each, and the answers on them. It knows nothing of how a bundle is written, nor of reports.
 #![tactic(auto)]
 
+mod error;
+mod form;
 mod limits;
+mod order;
 mod project;
 mod reading;
 mod repeats;
 
-pub use project::{ProjectError, judge_project};
+pub use error::ProjectError;
+pub use project::judge_project;

@@ -2,7 +2,7 @@ ghost use Rattle.std.specs.Prelude.{◌≡◌, ◌-◌, ◌^◌, min, length, na
 ghost use Rattle.std.specs.List.{list_any, sum_by};
 ghost use Rattle.desk_base.specs.Limit.{limit_max};
 ghost use Rattle.first_project.specs.Limits.{passed_limit};
-ghost use Rattle.first_project.specs.Classes.{files_of};
+ghost use Rattle.first_project.specs.Kept.{files_of};
 
 use bundle::FileEntry;
 use desk_base::LimitName;

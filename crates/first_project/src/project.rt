@@ -1,43 +1,56 @@
-ghost use Rattle.std.specs.Prelude.{IfOk, IfErr};
-ghost use Rattle.first_project.specs.Classes.{files_of};
-ghost use Rattle.first_project.specs.Answers.{AnswersOn, IsCauseOf};
+ghost use Rattle.std.specs.Prelude.{◌≡◌, All, IfOk, IfErr};
+ghost use Rattle.java_tree.specs.Names.{AsciiNames};
+ghost use Rattle.first_judge.specs.Parts.{class_texts};
+ghost use Rattle.first_project.specs.Kept.{files_of, tree_files};
+ghost use Rattle.first_project.specs.Trees.{types_of};
+ghost use Rattle.first_project.specs.Form.{IsFit};
+ghost use Rattle.first_project.specs.Answers.{AnswersOn, AreJudged, IsCauseOf, IsFaultOf};
 
+use crate::error::ProjectError;
+use crate::form::first_unfit;
 use crate::limits::passed_limit;
-use crate::reading::{classes_of, read_files};
-use crate::repeats::first_repeat;
+use crate::order::in_order;
+use crate::reading::{ReadFile, read_files, types_of};
+use crate::repeats::{Repeat, first_repeat};
 use bundle::FileEntry;
 use desk_base::{Bytes, LimitName, Name, OutOfMemory};
-use first_judge::judge_files;
+use first_form::ascii_names;
+use first_judge::{ClassFile, count_findings, judge_files};
 use report::Answers;
 use std::alloc::Global;
 
-/// Why files weren't judged.
-#[derive(Drop)]
-pub enum ProjectError<'a> {
-    /// The first limit that is passed, of files, file bytes and text bytes.
-    Limit(LimitName),
-    /// The path of the first file, in order of paths, that isn't of the form.
-    Unread(&'a [u8]),
-    /// The first type, in order of paths, whose name is used before: its name, the first file with it,
-    /// and its own.
-    Repeated(Name, Bytes, Bytes),
-    /// The allocator had no memory. It may come at any moment.
-    OutOfMemory,
+// What is said of a name that is used twice.
+fn repeated<'a>(alloc: Global, repeat: Repeat<'_>) -> Result<ProjectError<'a>, OutOfMemory>
+    ensures { IfOk result (λ error. error ≡ ProjectError.Repeated repeat.entry.name.now repeat.entry.first.now repeat.entry.second.now) }
+{
+    let name = Name::from_slice(alloc, repeat.name)?;
+    let first = Bytes::from_slice(alloc, repeat.first)?;
+    let second = Bytes::from_slice(alloc, repeat.second)?;
+    Ok(ProjectError::Repeated(name, first, second))
 }
 
-impl From<OutOfMemory> for ProjectError<'_> {
-    ghost use Rattle.std.specs.Prelude.{◌≡◌};
-    ghost use Rattle.first_project.specs.declared.project.ProjectError.TheVariants.{OutOfMemory as NoMemory};
-
-    ghost from_gives = { λ _ e. e ≡ NoMemory };
-
-    fn from(_error: OutOfMemory) -> Self {
-        ProjectError::OutOfMemory
+// Judges files that were read, in the order of their paths.
+fn judge_read<'a>(alloc: Global, read: &[ReadFile<'a>]) -> Result<Answers, ProjectError<'a>>
+    ensures answers { IfOk result (AreJudged (tree_files read.now)) }
+    ensures cause { IfErr result (IsFaultOf (tree_files read.now)) }
+{
+    ascii_names();
+    let types = types_of(alloc, read)?;
+    if let Some(repeat) = first_repeat(alloc, types.as_slice())? {
+        return Err(repeated(alloc, repeat)?);
     }
+    if let Some(path) = first_unfit(alloc, read)? {
+        return Err(ProjectError::Unfit(path));
+    }
+    if count_findings(types.as_slice()) > LimitName::Findings.max() {
+        return Err(ProjectError::Limit(LimitName::Findings));
+    }
+    Ok(judge_files(alloc, types.as_slice())?)
 }
 
-/// Judges files, in any order: their answers, or the first cause why they aren't judged, of a limit, a
-/// file that isn't of the form, and a name that is used twice.
+/// Judges files, in any order: their answers, or the first cause why they aren't judged, of a limit of
+/// files or bytes, a file that isn't read, a name that is used twice, a file that isn't of the first form,
+/// and the limit of findings.
 pub fn judge_project<'a>(
     alloc: Global,
     files: &[FileEntry<'a>],
@@ -48,18 +61,7 @@ pub fn judge_project<'a>(
     if let Some(limit) = passed_limit(files) {
         return Err(ProjectError::Limit(limit));
     }
-    let readings = read_files(alloc, files)?;
-    if let Some(path) = readings.unread {
-        return Err(ProjectError::Unread(path));
-    }
-    let classes = classes_of(alloc, readings.read.as_slice())?;
-    match first_repeat(alloc, classes.as_slice())? {
-        None => Ok(judge_files(alloc, classes.as_slice())?),
-        Some(repeat) => {
-            let name = Name::from_slice(alloc, repeat.name)?;
-            let first = Bytes::from_slice(alloc, repeat.first)?;
-            let second = Bytes::from_slice(alloc, repeat.second)?;
-            Err(ProjectError::Repeated(name, first, second))
-        }
-    }
+    let sorted = in_order(alloc, files)?;
+    let read = read_files(alloc, sorted.as_slice())?;
+    judge_read(alloc, read.as_slice())
 }

@@ -1,28 +1,27 @@
 -- One ending for the bundle that some bytes are.
-use Rattle.std.proofs.Common.{◌≡◌, ◌≢◌, inl, inr, ℕ, Bool, true, false, List, [], ◌∷◌, ◌++◌, map, refl, ap, sym, ◌∙◌, subst, arith, append-nil, suc, Option, Some, None}
+use Rattle.std.proofs.Common.{◌≡◌, ◌≢◌, inl, inr, ℕ, Bool, true, false, List, [], ◌∷◌, ◌++◌, map, refl, ap, sym, ◌∙◌, subst, arith, append-nil, suc, Option, Some, None, Result, Ok, Err, IfOk}
 use Rattle.std.specs.List.{All, Contains}
 use Rattle.std.specs.Option.{IfSome}
 use Rattle.std.proofs.lemmas.List.Elements.{All-contains, All-map}
 use Rattle.bundle.specs.Entry.{Entry}
 use Rattle.bundle.specs.Bundle.{IsBundle, BadAt, end_line}
 use Rattle.bundle.proofs.Whole.{bad_no_bundle}
-use Rattle.java_tree.specs.declared.file.FileTree.{FileTree}
-use Rattle.java_tree.specs.declared.file.ClassTree.{ClassTree}
-use Rattle.java_reader.specs.Reads.{ReadsAs}
 use Rattle.report.specs.declared.answers.Answers.{Answers}
 use Rattle.report.specs.Report.{report_bytes}
-use Rattle.first_judge.specs.Project.{ClassText}
-use Rattle.first_project.specs.Limits.{passed_limit}
-use Rattle.first_project.specs.Files.{IsUnread, FirstUnread, IsReadAs, AreReadAs, entry_of}
-use Rattle.first_project.specs.Repeats.{NoRepeat, FirstRepeat}
-use Rattle.first_project.specs.Answers.{AnswersOn, IsRepeated}
+use Rattle.first_project.specs.Trees.{IsUnread, types_of}
+use Rattle.first_project.specs.Repeats.{FirstRepeat}
+use Rattle.first_project.specs.Answers.{Taken, IsUnfit, IsPassed}
+use Rattle.first_project.proofs.OneAnswer.{OneTree, answered_unread, answered_unfit, answered_repeat, answered_passed}
 use Rattle.promise_desk.specs.declared.status.Status.{Status}
 use Rattle.promise_desk.specs.declared.status.Status.TheVariants as status
-use Rattle.promise_desk.specs.Check.{AnswersOf, Checks, is_inconsistent}
+use Rattle.promise_desk.specs.Check.{AnswersOf, Checks, IsTaken, is_inconsistent}
+use Rattle.desk_base.specs.declared.limit.LimitName.{LimitName}
 use Rattle.desk_base.specs.declared.limit.LimitName.TheVariants as limit
+use Rattle.desk_base.specs.declared.memory.OutOfMemory.{OutOfMemory}
+use Rattle.promise_desk.specs.declared.check.Ending.{Ending}
 use Rattle.promise_desk.specs.Intake.{WasTooLong}
 use Rattle.promise_desk.specs.Status.{code_of, limit_line}
-use Rattle.promise_desk.specs.Endings.{status_of, status_with, CheckEnds, IsReport, RunEnds, IsReportOrMemory}
+use Rattle.promise_desk.specs.Endings.{EndsAs, text_of, status_of, status_with, CheckEnds, IsReport, RunEnds, IsReportOrMemory}
 
 report_by : (bytes : List ℕ) (answers : Answers) (text : List ℕ) (b : Bool) → is_inconsistent answers ≡ b → AnswersOf bytes answers → text ≡ report_bytes answers → Checks bytes (status_with b) text
 report_by bytes answers text true is of same = (answers, of, is, same)
@@ -44,75 +43,29 @@ too_long left after rose s text long is same =
     long_by None long = tt
     long_by (Some bytes) long = (limit.BundleBytes, inl (refl, long), same)
 
--- ---- one list of classes
-
-abbrev OneTree : Type 0
-OneTree = (text : List ℕ) (first second : FileTree) → ReadsAs text first → ReadsAs text second → first ≡ second
-
-abbrev class_text : List ℕ → List ℕ → ClassTree → ClassText
-class_text path text class = record { path = path; text = text; class = class }
-
-first_of : (c d : ClassTree) → c ∷ [] ≡ d ∷ [] → c ≡ d
-first_of c d e = cc
-
-same_class : OneTree → (c d : ClassText) → entry_of c ≡ entry_of d → IsReadAs c → IsReadAs d → c ≡ d
-same_class one c d same (s, reads, types) (t, again, others) =
-    let path : c.path ≡ d.path = ap (λ e. e.path) same in
-    let text : c.text ≡ d.text = ap (λ e. e.text) same in
-    let P : List ℕ → Type 0 = λ x. ReadsAs x s in
-    let tree : s ≡ t = one d.text s t (subst P text reads) again in
-    let class : c.class ≡ d.class = first_of c.class d.class (sym types ∙ ap (λ x. x.types) tree ∙ others) in
-    class_by c.path d.path c.text d.text c.class d.class path text class
-  where
-    class_by : (p q t u : List ℕ) (x y : ClassTree) → p ≡ q → t ≡ u → x ≡ y → class_text p t x ≡ class_text q u y
-    class_by p q t u x y a b e = rw (a, b, e) refl
-
-all_tail : (c : ClassText) (cs : List ClassText) → All IsReadAs (c ∷ cs) → All IsReadAs cs
-all_tail c cs all k d low = all (suc k) d (omega arith)
-
-same_classes : OneTree → (one other : List ClassText) → map entry_of one ≡ map entry_of other → All IsReadAs one → All IsReadAs other → one ≡ other
-same_classes tree [] [] same a b = refl
-same_classes tree [] (d ∷ ds) same a b = cc
-same_classes tree (c ∷ cs) [] same a b = cc
-same_classes tree (c ∷ cs) (d ∷ ds) same a b =
-    let first : entry_of c ≡ entry_of d = cc in
-    let rest : map entry_of cs ≡ map entry_of ds = cc in
-    let head = same_class tree c d first (a 0 c (omega arith)) (b 0 d (omega arith)) in
-    let tail = same_classes tree cs ds rest (all_tail c cs a) (all_tail d ds b) in
-    rw (head, tail) refl
-
 -- ---- one ending for a bundle of the form
-
-read_not_unread : (files : List Entry) (classes : List ClassText) (path : List ℕ) → AreReadAs files classes → FirstUnread files path → ⊥
-read_not_unread files classes path read u =
-    let P : Entry → Type 0 = λ e. IsUnread e.text → ⊥ in
-    let all : All P (map entry_of classes) = All-map P entry_of classes (λ k d low none. none _ (read.each k d low).1) in
-    All-contains P files u.file (subst (All P) read.same all) u.among u.unread
-
-apart_not_repeated : OneTree → (files : List Entry) (answers : Answers) (name first second : List ℕ) → AnswersOn files answers → IsRepeated files name first second → ⊥
-apart_not_repeated tree files answers name first second on r =
-    let same = same_classes tree r.classes on.classes (r.read.same ∙ sym on.read.same) r.read.each on.read.each in
-    let P : List ClassText → Type 0 = λ l. FirstRepeat l name first second in
-    let again = subst P same r.repeat in
-    on.apart again.class first again.repeats
 
 pub reported : OneTree → (bytes : List ℕ) (answers : Answers) (s : Status) (text : List ℕ) → ((first second : List Entry) → IsBundle first bytes → IsBundle second bytes → first ≡ second) → AnswersOf bytes answers → Checks bytes s text → IsReport s
 reported tree bytes answers status.Consistent text one of checks = tt
 reported tree bytes answers status.Inconsistent text one of checks = tt
 reported tree bytes answers status.BadBundle text one of (at, bad, same) = bad_no_bundle bytes at of.files bad.bad of.taken.bundle
-reported tree bytes answers status.Unreadable text one of (path, unread, same) =
+reported tree bytes answers status.Unreadable text one of (inl (path, why, unread, same)) =
     let files = one unread.files of.files unread.taken.bundle of.taken.bundle in
-    let P : List Entry → Type 0 = λ l. FirstUnread l path in
-    read_not_unread of.files of.answered.classes path of.answered.read (subst P files unread.first)
+    let P : List Entry → Type 0 = λ l. IsUnread l path why in
+    answered_unread of.files answers path why of.answered (subst P files unread.first)
+reported tree bytes answers status.Unreadable text one of (inr (path, unfit, same)) =
+    let files = one unfit.files of.files unfit.taken.bundle of.taken.bundle in
+    let P : List Entry → Type 0 = λ l. Taken l (λ trees. IsUnfit trees path) in
+    answered_unfit tree of.files answers path of.taken.bundle.good.distinct of.answered (subst P files unfit.first)
 reported tree bytes answers status.DuplicateType text one of (name, first, second, r, same) =
     let files = one r.files of.files r.taken.bundle of.taken.bundle in
-    let P : List Entry → Type 0 = λ l. IsRepeated l name first second in
-    apart_not_repeated tree of.files answers name first second of.answered (subst P files r.repeat)
+    let P : List Entry → Type 0 = λ l. Taken l (λ trees. FirstRepeat (types_of trees) name first second) in
+    answered_repeat tree of.files answers name first second of.taken.bundle.good.distinct of.answered (subst P files r.repeat)
 reported tree bytes answers status.Limit text one of (which, inl (is, long), same) = absurd (omega (arith, of.taken.few))
 reported tree bytes answers status.Limit text one of (which, inr (files, taken, passed), same) =
     let same-files = one files of.files taken.bundle of.taken.bundle in
-    let none : passed_limit files ≡ None = ap passed_limit same-files ∙ of.answered.within in
-    cc
+    let P : List Entry → Type 0 = λ l. IsPassed l which in
+    answered_passed tree of.files answers which of.taken.bundle.good.distinct of.answered (subst P same-files passed)
 reported tree bytes answers status.Usage text one of none = none
 reported tree bytes answers status.InputFault text one of none = none
 reported tree bytes answers status.OutputFault text one of none = none
@@ -140,3 +93,11 @@ run_completes tree check left after rose status.Unreadable text bytes answers on
 run_completes tree check left after rose status.DuplicateType text bytes answers one asked told of quiet ends =
     let P : Option (List ℕ) → Type 0 = λ l. IfSome l (λ b. Checks b status.DuplicateType text × (after ≡ Some [])) in
     absurd (reported tree bytes answers status.DuplicateType text one of (subst P told ends.1).0)
+
+-- the line of a limit that the files pass is what a check gives
+pub limit_ends : (bytes : List ℕ) (files : List Entry) (which : LimitName) (r : Result Ending OutOfMemory) → IsTaken files bytes → IsPassed files which
+    → IfOk r (λ e. (e.status ≡ status.Limit) × (text_of e.text ≡ limit_line which)) → IfOk r (EndsAs bytes)
+limit_ends bytes files which (Ok e) taken passed made =
+    let P : Status → Type 0 = λ s. Checks bytes s (text_of e.text) in
+    subst P (sym made.0) (which, inr (files, taken, passed), made.1)
+limit_ends bytes files which (Err e) taken passed made = tt

@@ -8,13 +8,15 @@ use Rattle.bundle.specs.Bundle.{IsBundle, BadAt}
 use Rattle.report.specs.declared.answers.Answers.{Answers}
 use Rattle.report.specs.declared.verdict.Verdict.TheVariants as verdict
 use Rattle.report.specs.Report.{report_bytes, same_verdict}
+use Rattle.java_reader.specs.declared.error.ReadError.{ReadError}
 use Rattle.first_project.specs.Limits.{passed_limit}
-use Rattle.first_project.specs.Files.{FirstUnread}
-use Rattle.first_project.specs.Answers.{AnswersOn, IsRepeated}
+use Rattle.first_project.specs.Trees.{IsUnread, types_of}
+use Rattle.first_project.specs.Repeats.{FirstRepeat}
+use Rattle.first_project.specs.Answers.{AnswersOn, Taken, IsUnfit, IsPassed}
 use Rattle.promise_desk.specs.Intake.{most_bytes}
 use Rattle.promise_desk.specs.declared.status.Status.{Status}
 use Rattle.promise_desk.specs.declared.status.Status.TheVariants as status
-use Rattle.promise_desk.specs.Status.{bad_bundle_line, unreadable_line, duplicate_line, limit_line}
+use Rattle.promise_desk.specs.Status.{bad_bundle_line, unread_line, unfit_line, duplicate_line, limit_line}
 
 -- some verdict, that on `Program` among them, is inconsistent
 abbrev pub is_inconsistent : Answers → Bool
@@ -32,36 +34,48 @@ pub record AnswersOf (bytes : List ℕ) (answers : Answers) : Type 0 where
   pub answered : AnswersOn files answers
 
 -- the bytes are a bundle within the limits, and this is the path of the first file, in order of paths,
--- that isn't of the form
-pub record UnreadOf (bytes path : List ℕ) : Type 0 where
+-- that isn't read, and why
+pub record UnreadOf (bytes path : List ℕ) (error : ReadError) : Type 0 where
   pub files : List Entry
   pub taken : IsTaken files bytes
   pub within : passed_limit files ≡ None
-  pub first : FirstUnread files path
+  pub first : IsUnread files path error
 
--- the bytes are a bundle of files of the form, and this is the first type whose name is used before
+-- the bytes are a bundle of files that are read, and this is the path of the first that isn't of the form
+pub record UnfitOf (bytes path : List ℕ) : Type 0 where
+  pub files : List Entry
+  pub taken : IsTaken files bytes
+  pub first : Taken files (λ trees. IsUnfit trees path)
+
+-- the bytes are a bundle of files that are read, and this is the first type whose name is used before
 pub record RepeatOf (bytes name first second : List ℕ) : Type 0 where
   pub files : List Entry
   pub taken : IsTaken files bytes
-  pub repeat : IsRepeated files name first second
+  pub repeat : Taken files (λ trees. FirstRepeat (types_of trees) name first second)
 
 -- the bytes are not too many, and the first place at which they are no bundle
 pub record BadOf (bytes : List ℕ) (at : ℕ) : Type 0 where
   pub few : length bytes ≤ most_bytes
   pub bad : BadAt bytes at
 
--- there are more bytes than are taken, or they are a bundle whose files pass this limit first
+-- there are more bytes than are taken, or they are a bundle whose files pass this limit
 abbrev pub PassedOf : List ℕ → LimitName → Type 0
 PassedOf bytes which =
     ((which ≡ limit.BundleBytes) × (most_bytes < length bytes))
-    ⊎ ((files : List Entry) × IsTaken files bytes × (passed_limit files ≡ Some which))
+    ⊎ ((files : List Entry) × IsTaken files bytes × IsPassed files which)
+
+-- a file of the bundle isn't read, or isn't of the first form, and the line says so
+abbrev pub IsUnreadable : List ℕ → List ℕ → Type 0
+IsUnreadable bytes text =
+    ((path : List ℕ) × (error : ReadError) × UnreadOf bytes path error × (text ≡ unread_line path error))
+    ⊎ ((path : List ℕ) × UnfitOf bytes path × (text ≡ unfit_line path))
 
 -- what a check of the bytes ends with and writes, want of memory aside
 abbrev pub Checks : List ℕ → Status → List ℕ → Type 0
 Checks bytes status.Consistent text = (answers : Answers) × AnswersOf bytes answers × (is_inconsistent answers ≡ false) × (text ≡ report_bytes answers)
 Checks bytes status.Inconsistent text = (answers : Answers) × AnswersOf bytes answers × (is_inconsistent answers ≡ true) × (text ≡ report_bytes answers)
 Checks bytes status.BadBundle text = (at : ℕ) × BadOf bytes at × (text ≡ bad_bundle_line at)
-Checks bytes status.Unreadable text = (path : List ℕ) × UnreadOf bytes path × (text ≡ unreadable_line path)
+Checks bytes status.Unreadable text = IsUnreadable bytes text
 Checks bytes status.DuplicateType text = (name : List ℕ) × (first : List ℕ) × (second : List ℕ) × RepeatOf bytes name first second × (text ≡ duplicate_line name first second)
 Checks bytes status.Limit text = (which : LimitName) × PassedOf bytes which × (text ≡ limit_line which)
 Checks bytes other text = ⊥

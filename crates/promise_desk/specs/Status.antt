@@ -2,6 +2,8 @@
 use Rattle.std.specs.Prelude.{ℕ, List, [], ◌++◌, codes, decimal}
 use Rattle.desk_base.specs.Limit.{limit_text, limit_max}
 use Rattle.desk_base.specs.declared.limit.LimitName.{LimitName}
+use Rattle.java_reader.specs.declared.error.ReadError.{ReadError}
+use Rattle.java_reader.specs.declared.error.ReadError.TheVariants as error
 use Rattle.promise_desk.specs.declared.status.Status.{Status}
 use Rattle.promise_desk.specs.declared.status.Status.TheVariants as status
 
@@ -24,9 +26,27 @@ fixed_line status.InputFault = codes "input fault\n"
 fixed_line status.Memory = codes "memory\n"
 fixed_line other = []
 
--- the line that names a file which isn't of the form
-abbrev pub unreadable_line : List ℕ → List ℕ
-unreadable_line path = codes "unreadable " ++ path ++ codes " form at 0\n"
+-- what is at fault in a file that isn't read; the one limit that a file of no too many bytes passes is
+-- that of a name
+abbrev pub kind_of : ReadError → List ℕ
+kind_of (error.Limit which at) = codes "name"
+kind_of (error.Lex at) = codes "lex"
+kind_of (error.Grammar at) = codes "grammar"
+kind_of error.OutOfMemory = []
+
+abbrev pub place_of : ReadError → ℕ
+place_of (error.Limit which at) = at
+place_of (error.Lex at) = at
+place_of (error.Grammar at) = at
+place_of error.OutOfMemory = 0
+
+-- the line that names a file which isn't read, and the place at which it is at fault
+abbrev pub unread_line : List ℕ → ReadError → List ℕ
+unread_line path why = codes "unreadable " ++ path ++ codes " " ++ kind_of why ++ codes " at " ++ decimal (place_of why) ++ codes "\n"
+
+-- the line that names a file which isn't of the first form
+abbrev pub unfit_line : List ℕ → List ℕ
+unfit_line path = codes "unreadable " ++ path ++ codes " form at 0\n"
 
 -- the line that names the place at which bytes stop being a bundle
 abbrev pub bad_bundle_line : ℕ → List ℕ

@@ -1,7 +1,7 @@
 ghost use Rattle.std.specs.Prelude.{◌≡◌, ◌≤◌, length, IfOk};
 ghost use Rattle.promise_desk.specs.Intake.{most_bytes};
 ghost use Rattle.promise_desk.specs.Check.{is_inconsistent};
-ghost use Rattle.promise_desk.specs.Status.{bad_bundle_line, unreadable_line, duplicate_line, limit_line};
+ghost use Rattle.promise_desk.specs.Status.{bad_bundle_line, unread_line, unfit_line, duplicate_line, limit_line, kind_of, place_of};
 ghost use Rattle.report.specs.Report.{report_bytes};
 ghost use Rattle.promise_desk.specs.Endings.{EndsAs, text_of, status_of};
 
@@ -9,6 +9,7 @@ use crate::status::Status;
 use bundle::{BundleError, read_bundle};
 use desk_base::{Bytes, LimitName, Name, OutOfMemory};
 use first_project::{ProjectError, judge_project};
+use java_reader::ReadError;
 use report::{Answers, Verdict, report_text};
 use result_records::Put;
 use std::alloc::Global;
@@ -74,9 +75,48 @@ fn bad_bundle(alloc: Global, at: usize) -> Result<Ending, OutOfMemory>
     })
 }
 
-// The line that names a file which isn't of the form.
-fn unreadable(alloc: Global, path: &[u8]) -> Result<Ending, OutOfMemory>
-    ensures { IfOk result (λ ending. (ending.status ≡ Status.Unreadable) × (text_of ending.text ≡ unreadable_line path.now)) }
+// What is at fault in a file that isn't read. The desk looks at the bytes of files before it reads them,
+// so the one limit here is that of a name.
+fn kind_of(why: ReadError) -> &'static str
+    ensures { result.now ≡ kind_of why }
+{
+    match why {
+        ReadError::Limit { .. } => "name",
+        ReadError::Lex { .. } => "lex",
+        ReadError::Grammar { .. } => "grammar",
+        ReadError::OutOfMemory => "",
+    }
+}
+
+fn place_of(why: ReadError) -> u32
+    ensures { result ≡ place_of why }
+{
+    match why {
+        ReadError::Limit { at, .. } | ReadError::Lex { at } | ReadError::Grammar { at } => at,
+        ReadError::OutOfMemory => 0,
+    }
+}
+
+// The line that names a file which isn't read, and the place at which it is at fault.
+fn unread(alloc: Global, path: &[u8], why: ReadError) -> Result<Ending, OutOfMemory>
+    ensures { IfOk result (λ ending. (ending.status ≡ Status.Unreadable) × (text_of ending.text ≡ unread_line path.now why)) }
+{
+    let mut line = Bytes::from_slice(alloc, b"unreadable ")?;
+    line.append(path)?;
+    line.append(b" ")?;
+    line.append(kind_of(why).as_bytes())?;
+    line.append(b" at ")?;
+    line.put_number(u64::from(place_of(why)))?;
+    line.append(b"\n")?;
+    Ok(Ending {
+        status: Status::Unreadable,
+        text: Text::Made(line),
+    })
+}
+
+// The line that names a file which isn't of the first form.
+fn unfit(alloc: Global, path: &[u8]) -> Result<Ending, OutOfMemory>
+    ensures { IfOk result (λ ending. (ending.status ≡ Status.Unreadable) × (text_of ending.text ≡ unfit_line path.now)) }
 {
     let mut line = Bytes::from_slice(alloc, b"unreadable ")?;
     line.append(path)?;
@@ -132,7 +172,8 @@ pub fn judge_bundle(alloc: Global, bytes: &[u8]) -> Result<Ending, OutOfMemory>
     match judge_project(alloc, files.as_slice()) {
         Ok(answers) => report(alloc, &answers),
         Err(ProjectError::Limit(which)) => past_limit(alloc, which),
-        Err(ProjectError::Unread(path)) => unreadable(alloc, path),
+        Err(ProjectError::Unread(path, why)) => unread(alloc, path, why),
+        Err(ProjectError::Unfit(path)) => unfit(alloc, path),
         Err(ProjectError::Repeated(name, first, second)) => duplicate(
             alloc,
             name.as_slice(),

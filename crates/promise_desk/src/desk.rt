@@ -63,7 +63,7 @@ fn run<I: Source>(alloc: Global, words: &Vec<String>, input: &mut I) -> Ending
 ///
 /// 0 and 1: a bundle was read to the input's end and its report written, 1 where a verdict is
 /// inconsistent. 2: the words are no command. 3: a take failed. 4: a give failed. 6: the input is no
-/// bundle. 7: a file isn't of the form. 8: two types have one name. 9: a limit is passed. 11: memory was
+/// bundle. 7: a file isn't read, or isn't of the first form. 8: two types have one name. 9: a limit is passed. 11: memory was
 /// wanting.
 pub fn desk_main<I: Source, O: Sink, K: Keeper, L>(
     alloc: Global,

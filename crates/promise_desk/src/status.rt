@@ -16,7 +16,7 @@ pub enum Status {
     OutputFault,
     /// The input is no bundle.
     BadBundle,
-    /// A file isn't of the form that is judged.
+    /// A file isn't read, or isn't of the form that is judged.
     Unreadable,
     /// Two types have one name.
     DuplicateType,

@@ -2,7 +2,7 @@ use Rattle.std.proofs.Common.{arith, sym, ◌∙◌}
 use Rattle.std.proofs.lemmas.List.{length-map}
 use Rattle.std.proofs.lemmas.Bool.{le-ltb, lt-ltb}
 use Rattle.bundle.specs.File.{file_of}
-use Rattle.first_project.specs.Classes.{files_of}
+use Rattle.first_project.specs.Kept.{files_of}
 use Rattle.first_project.proofs.LimitMore.{long_file, text_sum, past_file_bytes, past_text_bytes, past_none}
 use Rattle.first_project.proofs.limits.passed_limit.Goals as goal
 

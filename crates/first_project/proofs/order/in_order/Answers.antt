@@ -1,0 +1,24 @@
+use Rattle.std.proofs.Common.{ap, sym, subst, List, rules}
+use Rattle.std.specs.List.Sorted.{IsPermutation}
+use Rattle.std.specs.Ordering.{nat_cmp, is_lt}
+use Rattle.std.specs.Cmp.Lexicographic.{slice_cmp, nat_list_cmp_total}
+use Rattle.std.proofs.lemmas.List.MinMax.{ranks_by}
+use Rattle.std.proofs.lemmas.List.Sorted.{IsPermutation-map}
+use Rattle.std.proofs.lemmas.Fn.{always_returns_same}
+use Rattle.bundle.specs.Entry.{Entry}
+use Rattle.bundle.specs.File.{file_of}
+use Rattle.bundle.specs.declared.entry.FileEntry.{FileEntry}
+use Rattle.first_project.specs.Order.{path_before}
+use Rattle.first_project.specs.Kept.{files_of}
+use Rattle.first_project.proofs.Lists.{sorted_map}
+use Rattle.first_project.proofs.order.in_order.Goals as goal
+
+pub returns : goal.returns
+returns c =
+    let sorted = c.sort_unstable_by.new.self.items in
+    let P : List FileEntry → Type 0 = λ l. IsPermutation (files_of l) (files_of sorted) in
+    record {
+      same = subst P c.in_ok-sorted.ensures.items (IsPermutation-map file_of c.in_ok-sorted.sorted.items sorted c.sort_unstable_by.ensures.permutation);
+      rising = sorted_map file_of path_before sorted
+          (c.sort_unstable_by.ensures.sorted (λ (a b : FileEntry). path_before (file_of a) (file_of b)) (ranks_by nat_list_cmp_total (λ (f : FileEntry). f.path.now)) (always_returns_same _ _ _ (λ a r q k. search rules)));
+    }

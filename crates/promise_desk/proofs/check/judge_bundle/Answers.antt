@@ -1,0 +1,12 @@
+use Rattle.std.proofs.Common.{List, subst}
+use Rattle.bundle.specs.declared.entry.FileEntry.{FileEntry}
+use Rattle.first_project.specs.Kept.{files_of}
+use Rattle.first_project.specs.Answers.{IsPassed}
+use Rattle.promise_desk.proofs.Files.{limit_ends}
+use Rattle.promise_desk.proofs.check.judge_bundle.Goals as goal
+
+pub returns-in-Err-Limit : goal.returns-in-Err-Limit
+returns-in-Err-Limit c =
+    let P : List FileEntry → Type 0 = λ l. IsPassed (files_of l) c.in-Err-Limit.which in
+    let passed = subst P c.as_slice.ensures.value (rw c.in-Err-Limit.field-0-is at c.in-Err-Limit.ensures.cause) in
+    limit_ends c.args.bytes.now (files_of c.in-Ok.files.items) c.in-Err-Limit.which c.past_limit.result (record { bundle = c.in-Ok.ensures.files; few = c.requires }) passed c.past_limit.ensures
