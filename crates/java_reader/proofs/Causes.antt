@@ -1,5 +1,5 @@
 -- A text is read or has one cause why it isn't.
-use Rattle.std.proofs.Common.{◌≡◌, ◌≢◌, ◌⊎◌, inl, inr, ℕ, ◌<◌, ◌≤◌, List, length, Option, Some, None, Result, Ok, Err, IfOk, IfErr, refl, ap, ◌∙◌, sym, subst, arith}
+use Rattle.std.proofs.Common.{◌≡◌, ◌≢◌, inl, inr, ℕ, ◌≤◌, List, length, Some, None, Result, Ok, Err, IfOk, IfErr, refl, ap, ◌∙◌, sym, subst, arith}
 use Rattle.desk_base.specs.declared.limit.LimitName.{LimitName}
 use Rattle.desk_base.specs.declared.limit.LimitName.TheVariants as limit
 use Rattle.java_tree.specs.declared.token.Token.{Token}

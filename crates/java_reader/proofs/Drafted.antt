@@ -1,5 +1,5 @@
 -- What a draft says of the tokens that were read, and how each part keeps it.
-use Rattle.std.proofs.Common.{◌≡◌, ℕ, List, [], ◌∷◌, ◌++◌, Option, Some, None, refl, ap, ◌∙◌, sym, subst}
+use Rattle.std.proofs.Common.{◌≡◌, List, [], ◌∷◌, ◌++◌, Option, Some, None, refl, ap, ◌∙◌, sym, subst}
 use Rattle.java_tree.specs.declared.token.Token.{Token}
 use Rattle.java_tree.specs.declared.member.MemberTree.{MemberTree}
 use Rattle.java_tree.specs.declared.file.Package.{Package}
@@ -12,9 +12,9 @@ use Rattle.java_heads.specs.declared.header.Header.{Header}
 use Rattle.java_heads.specs.Spelling.{PackageSpells, ImportSpells, HeaderSpells}
 use Rattle.java_heads.proofs.Lists.{each-snoc}
 use Rattle.java_reader.specs.declared.draft.Draft.{Draft}
-use Rattle.java_reader.specs.Spelling.{TypeMember, header_of, TypeSpells, PackagePart, FileSpells, Spells}
-use Rattle.java_reader.specs.Parts.{Part, PackageLine, ImportLine, Opening, Inner, Closing, Stage, Start, Lines, Types, Body, IsStart, IsBeforeTypes, IsOutside, IsBody, MemberAt, PartSpells, PartsSpell, stage_after}
-use Rattle.java_reader.specs.Drafts.{file_of, between, within, class_of, with_member, blank, closed, filled, stage_by, stage_of, added}
+use Rattle.java_reader.specs.Spelling.{TypeMember, header_of, TypeSpells, PackagePart, Spells}
+use Rattle.java_reader.specs.Parts.{Part, PackageLine, ImportLine, Opening, Inner, Closing, Stage, Start, Lines, Types, IsStart, IsBeforeTypes, IsOutside, IsBody, MemberAt, PartSpells, PartsSpell, stage_after}
+use Rattle.java_reader.specs.Drafts.{file_of, class_of, blank, closed, filled, stage_by, stage_of, added}
 use Rattle.java_reader.proofs.Unique.{end_stage, parts-snoc, end-snoc}
 
 -- a type whose body is open

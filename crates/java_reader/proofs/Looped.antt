@@ -1,5 +1,5 @@
 -- What the loop over the parts has found when it stops.
-use Rattle.std.proofs.Common.{◌≡◌, ℕ, ◌<◌, List, [], ◌∷◌, length, Option, Some, None, unwrap_or, Result, Ok, Err, IfOk, IfErr, refl, ap, ◌∙◌, sym, subst}
+use Rattle.std.proofs.Common.{◌≡◌, ℕ, ◌<◌, List, [], ◌∷◌, length, Option, Some, None, unwrap_or, Result, Ok, Err, IfOk, IfErr, refl, sym, subst}
 use Rattle.java_tree.specs.declared.token.Token.{Token}
 use Rattle.java_tree.specs.declared.file.ClassTree.{ClassTree}
 use Rattle.java_tree.specs.declared.file.FileTree.{FileTree}
@@ -8,8 +8,7 @@ use Rattle.java_reader.specs.declared.error.ReadError.{ReadError}
 use Rattle.java_reader.specs.declared.error.ReadError.TheVariants as error
 use Rattle.java_reader.specs.declared.draft.Draft.{Draft}
 use Rattle.java_reader.specs.Spelling.{Spells}
-use Rattle.java_reader.specs.Parts.{Stage, Start, Body, IsOutside}
-use Rattle.java_reader.specs.Reads.{IsFaultAt, place_of}
+use Rattle.java_reader.specs.Parts.{Stage, Start, IsOutside}
 use Rattle.java_reader.specs.Answers.{AdvancesFrom, IsWhole, IsPartCause}
 use Rattle.java_reader.specs.Drafts.{stage_by, stage_of}
 use Rattle.java_reader.proofs.Shorter.{part-shorter}

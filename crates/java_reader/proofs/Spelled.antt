@@ -1,5 +1,5 @@
 -- A file that is spelled, as a list of parts; and that tokens spell one file at most.
-use Rattle.std.proofs.Common.{◌≡◌, ℕ, ◌<◌, Bool, true, false, List, [], ◌∷◌, ◌++◌, length, Option, Some, None, refl, ap, ◌∙◌, sym, subst, arith}
+use Rattle.std.proofs.Common.{◌≡◌, ℕ, true, false, List, [], ◌∷◌, ◌++◌, Option, Some, None, refl, ap, ◌∙◌, sym, subst}
 use Rattle.java_tree.specs.declared.kind.Kind.TheVariants as k
 use Rattle.java_tree.specs.declared.token.Token.{Token}
 use Rattle.java_tree.specs.declared.member.MemberTree.{MemberTree}
@@ -13,7 +13,7 @@ use Rattle.java_phrases.specs.Parser.{sees}
 use Rattle.java_phrases.proofs.Phrases.{next-mark}
 use Rattle.java_heads.specs.declared.header.Header.{Header}
 use Rattle.java_heads.specs.Laws.{OneTree}
-use Rattle.java_heads.specs.Spelling.{PackageSpells, ImportSpells, HeaderSpells}
+use Rattle.java_heads.specs.Spelling.{PackageSpells, ImportSpells}
 use Rattle.java_heads.specs.Reading.{package_line, import_line}
 use Rattle.java_heads.proofs.Lists.{sees-kind}
 use Rattle.java_heads.proofs.LineLaws.{package-complete, import-complete}

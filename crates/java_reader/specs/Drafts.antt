@@ -1,5 +1,5 @@
 -- What has been read of a file so far, and what each part adds to it.
-use Rattle.std.specs.Prelude.{ℕ, Bool, true, false, List, [], ◌∷◌, ◌++◌, Option, Some, None}
+use Rattle.std.specs.Prelude.{List, [], ◌∷◌, ◌++◌, Option, Some, None}
 use Rattle.java_tree.specs.declared.member.MemberTree.{MemberTree}
 use Rattle.java_tree.specs.declared.file.Package.{Package}
 use Rattle.java_tree.specs.declared.file.Import.{Import}

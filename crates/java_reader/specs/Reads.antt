@@ -1,5 +1,5 @@
 -- What it is to read a file, where it is at fault if it isn't read, and the lines of a text.
-use Rattle.std.specs.Prelude.{◌≡◌, ◌≢◌, ◌⊎◌, ℕ, ◌+◌, ◌<◌, ◌≤◌, ◌==◌, nat_lt, Bool, ◌&&◌, List, length, take, find, count_by, Option, Some, None, unwrap_or, Result, Ok, Err}
+use Rattle.std.specs.Prelude.{◌≡◌, ◌⊎◌, ℕ, ◌+◌, ◌<◌, ◌≤◌, ◌==◌, nat_lt, Bool, ◌&&◌, List, length, take, find, count_by, Option, Some, None, unwrap_or, Result, Ok, Err}
 use Rattle.desk_base.specs.declared.limit.LimitName.{LimitName}
 use Rattle.desk_base.specs.declared.limit.LimitName.TheVariants as limit
 use Rattle.desk_base.specs.Limit.{limit_max}

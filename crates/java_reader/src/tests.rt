@@ -7,8 +7,8 @@ use std::test::Fail;
 const ACCOUNT: &[u8] =
     b"@RegionLock(\"L is this protects Instance\")\nclass Account {\n  int n;\n  synchronized void deposit() { n += 1; }\n}\n";
 
-/// Texts, and the place of the fault of each that spells no file.
-const TEXTS: [(&[u8], Option<u32>); 192] = [
+/// Files, and the place of the fault of each that is refused.
+const LINES_AND_TYPES: [(&[u8], Option<u32>); 35] = [
     (b"", None),
     (b"package a;", None),
     (b"package a.b.c;", None),
@@ -53,6 +53,10 @@ const TEXTS: [(&[u8], Option<u32>); 192] = [
     (b"import a; import a.*.b;", Some(10)),
     (b"class A { } import a;", Some(12)),
     (b"class A { import a; }", Some(10)),
+];
+
+/// More of them, for their headers and for the members of interfaces.
+const HEADERS: [(&[u8], Option<u32>); 27] = [
     (b"private class A { }", Some(0)),
     (b"static class A { }", Some(0)),
     (b"final @B final class A { }", Some(0)),
@@ -80,253 +84,158 @@ const TEXTS: [(&[u8], Option<u32>); 192] = [
     (b"interface I { void f(); static void g(); }", Some(24)),
     (b"interface I { I(); }", Some(14)),
     (b"interface I { ", Some(14)),
-    (b"class A { int n; }", None),
-    (b"class A { private static final boolean b = true; }", None),
-    (b"class A { @B protected B b = null; }", None),
-    (b"class A { public String s = \"a\\\"\\\\\"; }", None),
-    (b"class A { int n = 0; }", None),
-    (b"class A { int n = -2147483648; }", None),
-    (b"class A { boolean b = false; }", None),
-    (b"class A { final Object o = new Object(); }", None),
-    (b"class A { A() { } }", None),
+];
+
+/// Members of a class, and the place of the fault among them.
+const MEMBERS: [(&[u8], Option<u32>); 53] = [
+    (b"int n;", None),
+    (b"private static final boolean b = true;", None),
+    (b"@B protected B b = null;", None),
+    (b"public String s = \"a\\\"\\\\\";", None),
+    (b"int n = 0;", None),
+    (b"int n = -2147483648;", None),
+    (b"boolean b = false;", None),
+    (b"final Object o = new Object();", None),
+    (b"A() { }", None),
+    (b"@B private A(int a, final @B C b) throws X { }", None),
+    (b"void f() { }", None),
     (
-        b"class A { @B private A(int a, final @B C b) throws X { } }",
+        b"public static synchronized final int f(B b) throws a.X, Y { return 0; }",
         None,
     ),
-    (b"class A { void f() { } }", None),
+    (b"B B() { return b; }", None),
+    (b"public static void main(String[] a) { }", None),
     (
-        b"class A { public static synchronized final int f(B b) throws a.X, Y { return 0; } }",
+        b"final @B synchronized static public void main(final String[] a) throws X { }",
         None,
     ),
-    (b"class A { B B() { return b; } }", None),
-    (b"class A { public static void main(String[] a) { } }", None),
-    (
-        b"class A { final @B synchronized static public void main(final String[] a) throws X { } }",
-        None,
-    ),
-    (b"class A { void main(String s) { } }", None),
-    (b"class A { public static void main(String a) { } }", None),
-    (b"class A { void main() { } }", None),
-    (b"class A { A A() { return this; } }", None),
-    (b"class A { int n }", Some(10)),
-    (b"class A { long n; }", Some(10)),
-    (b"class A { synchronized int n; }", Some(10)),
-    (b"class A { public private int n; }", Some(10)),
-    (b"class A { static static int n; }", Some(10)),
-    (b"class A { abstract int n; }", Some(10)),
-    (b"class A { void n; }", Some(10)),
-    (b"class A { int n, m; }", Some(10)),
-    (b"class A { int[] n; }", Some(10)),
-    (b"class A { int n = 2147483648; }", Some(10)),
-    (b"class A { int n = 1 + 1; }", Some(10)),
-    (b"class A { int n = n; }", Some(10)),
-    (b"class A { int n = - -1; }", Some(10)),
-    (b"class A { Object o = new A(); }", Some(10)),
-    (b"class A { int n; ; }", Some(17)),
-    (b"class A { int n; long m; int k }", Some(17)),
-    (b"class A { B() { } }", Some(10)),
-    (b"class A { A(); }", Some(10)),
-    (b"class A { static A() { } }", Some(10)),
-    (b"class A { final A() { } }", Some(10)),
-    (b"class A { void f(); }", Some(10)),
-    (b"class A { abstract void f() { } }", Some(10)),
-    (b"class A { f() { } }", Some(10)),
-    (b"class A { void f(int) { } }", Some(10)),
-    (b"class A { void f(int a,) { } }", Some(10)),
-    (b"class A { void f(static int a) { } }", Some(10)),
-    (b"class A { void f() throws { } }", Some(10)),
-    (b"class A { void f() throws X, { } }", Some(10)),
-    (b"class A { public void main(String[] a) { } }", Some(10)),
-    (b"class A { static void main(String[] a) { } }", Some(10)),
-    (
-        b"class A { public static int main(String[] a) { } }",
-        Some(10),
-    ),
-    (
-        b"class A { public static void start(String[] a) { } }",
-        Some(10),
-    ),
-    (b"class A { public static void main(B[] a) { } }", Some(10)),
-    (b"class A { void f() { } void g() { ; int n; }", Some(23)),
-    (b"class A { int n; void m() { ; { } { { ; } } } }", None),
-    (
-        b"class A { int n; void m() { int a = 1; final boolean b = true; B c = d; { int a = 2; } } }",
-        None,
-    ),
-    (
-        b"class A { int n; void m() { n = 1; n += m; n -= 1; this.n = 1; a.b.c = 1; (a).b = 1; f().n = 1; } }",
-        None,
-    ),
-    (
-        b"class A { int n; void m() { n++; n--; ++n; --n; this.n++; --a.n; } }",
-        None,
-    ),
-    (
-        b"class A { int n; void m() { f(); f(1, a + b); a.f(); this.f(g()); (f()).g(); new B(); new B(1); new B().f(); } }",
-        None,
-    ),
-    (
-        b"class A { int n; void m() { new Thread(new B()).start(); } }",
-        None,
-    ),
-    (
-        b"class A { int n; void m() { if (a) f(); else if (b) { } else ; } }",
-        None,
-    ),
-    (
-        b"class A { int n; void m() { if (a) while (b) if (c) f(); else g(); } }",
-        None,
-    ),
-    (
-        b"class A { int n; void m() { while (a && !b) n++; } }",
-        None,
-    ),
-    (b"class A { int n; void m() { for (;;) ; } }", None),
-    (
-        b"class A { int n; void m() { for (int i = 0; i < 3; i++) { } } }",
-        None,
-    ),
-    (
-        b"class A { int n; void m() { for (final B i = a; ; ) f(); } }",
-        None,
-    ),
-    (
-        b"class A { int n; void m() { for (i = 0; a; f()) for (++i; ; new B()) ; } }",
-        None,
-    ),
-    (
-        b"class A { int n; void m() { synchronized (this) { } synchronized (A.class) { } synchronized (a.b()) { } } }",
-        None,
-    ),
-    (
-        b"class A { int n; void m() { return; return a; return \"x\"; } }",
-        None,
-    ),
-    (
-        b"class A { int n; void m() { return a || b && c == d != e < f > g <= h >= i + j - k * l / m % n; } }",
-        None,
-    ),
-    (
-        b"class A { int n; void m() { return !-a; return - -1; return -2147483648; return !(a == b); } }",
-        None,
-    ),
-    (
-        b"class A { int n; void m() { return ((a)); return a.b.c(1).d; return new B().f; return this.f(null, true, false); } }",
-        None,
-    ),
-    (
-        b"class A { int n; void m() { return -2147483648 + 1; } }",
-        None,
-    ),
-    (b"class A { int n; void m() { int a; } }", Some(17)),
-    (
-        b"class A { int n; void m() { static int a = 1; } }",
-        Some(17),
-    ),
-    (b"class A { int n; void m() { 1; } }", Some(17)),
-    (b"class A { int n; void m() { a; } }", Some(17)),
-    (b"class A { int n; void m() { a + b; } }", Some(17)),
-    (b"class A { int n; void m() { a.b; } }", Some(17)),
-    (b"class A { int n; void m() { this; } }", Some(17)),
-    (b"class A { int n; void m() { (n) = 1; } }", Some(17)),
-    (b"class A { int n; void m() { f() = 1; } }", Some(17)),
-    (b"class A { int n; void m() { this = 1; } }", Some(17)),
-    (b"class A { int n; void m() { n = m = 1; } }", Some(17)),
-    (b"class A { int n; void m() { n *= 2; } }", Some(17)),
-    (b"class A { int n; void m() { f()++; } }", Some(17)),
-    (b"class A { int n; void m() { ++f(); } }", Some(17)),
-    (b"class A { int n; void m() { ++n++; } }", Some(17)),
-    (b"class A { int n; void m() { -n; } }", Some(17)),
-    (b"class A { int n; void m() { new Thread(a); } }", Some(17)),
-    (
-        b"class A { int n; void m() { new Thread(a).run(); } }",
-        Some(17),
-    ),
-    (
-        b"class A { int n; void m() { n = new Thread(a); } }",
-        Some(17),
-    ),
-    (b"class A { int n; void m() { new B().n; } }", Some(17)),
-    (b"class A { int n; void m() { if a f(); } }", Some(17)),
-    (
-        b"class A { int n; void m() { if (a) else f(); } }",
-        Some(17),
-    ),
-    (
-        b"class A { int n; void m() { if (a) int b = 1; } }",
-        Some(17),
-    ),
-    (b"class A { int n; void m() { else f(); } }", Some(17)),
-    (
-        b"class A { int n; void m() { if (a) ; else ; else ; } }",
-        Some(17),
-    ),
-    (
-        b"class A { int n; void m() { while (a) T t = a; } }",
-        Some(17),
-    ),
-    (b"class A { int n; void m() { for (a;;) ; } }", Some(17)),
-    (b"class A { int n; void m() { for (;;a) ; } }", Some(17)),
-    (
-        b"class A { int n; void m() { synchronized (this.class) { } } }",
-        Some(17),
-    ),
-    (
-        b"class A { int n; void m() { new Thread(r).start(a); } }",
-        Some(17),
-    ),
-    (b"class A { int n; void m() { final n = 1; } }", Some(17)),
-    (b"class A { int n; void m() { while () f(); } }", Some(17)),
-    (b"class A { int n; void m() { while (a) } }", Some(17)),
-    (b"class A { int n; void m() { for (;) f(); } }", Some(17)),
-    (b"class A { int n; void m() { for (;;;) f(); } }", Some(17)),
-    (
-        b"class A { int n; void m() { for (int i;;) f(); } }",
-        Some(17),
-    ),
-    (
-        b"class A { int n; void m() { for (int i = 0, j = 1;;) f(); } }",
-        Some(17),
-    ),
-    (
-        b"class A { int n; void m() { synchronized (a) f(); } }",
-        Some(17),
-    ),
-    (
-        b"class A { int n; void m() { synchronized { } } }",
-        Some(17),
-    ),
-    (
-        b"class A { int n; void m() { synchronized (a.b.class) { } } }",
-        Some(17),
-    ),
-    (b"class A { int n; void m() { return a } }", Some(17)),
-    (
-        b"class A { int n; void m() { return 2147483648; } }",
-        Some(17),
-    ),
-    (
-        b"class A { int n; void m() { return -(2147483648); } }",
-        Some(17),
-    ),
-    (
-        b"class A { int n; void m() { return -2147483648.f; } }",
-        Some(17),
-    ),
-    (b"class A { int n; void m() { return a = b; } }", Some(17)),
-    (b"class A { int n; void m() { return --a; } }", Some(17)),
-    (b"class A { int n; void m() { return f(a,); } }", Some(17)),
-    (b"class A { int n; void m() { return f(,a); } }", Some(17)),
-    (b"class A { int n; void m() { return f(a)(b); } }", Some(17)),
-    (b"class A { int n; void m() { return a..b; } }", Some(17)),
-    (b"class A { int n; void m() { return a.this; } }", Some(17)),
-    (b"class A { int n; void m() { return (); } }", Some(17)),
-    (b"class A { int n; void m() { return (a; } }", Some(17)),
-    (b"class A { int n; void m() { return a b; } }", Some(17)),
-    (b"class A { int n; void m() { return a +; } }", Some(17)),
-    (b"class A { int n; void m() { return A.class; } }", Some(17)),
-    (b"class A { int n; void m() { break; } }", Some(17)),
-    (b"class A { int n; void m() { throw a; } }", Some(17)),
+    (b"void main(String s) { }", None),
+    (b"public static void main(String a) { }", None),
+    (b"void main() { }", None),
+    (b"A A() { return this; }", None),
+    (b"int n", Some(0)),
+    (b"long n;", Some(0)),
+    (b"synchronized int n;", Some(0)),
+    (b"public private int n;", Some(0)),
+    (b"static static int n;", Some(0)),
+    (b"abstract int n;", Some(0)),
+    (b"void n;", Some(0)),
+    (b"int n, m;", Some(0)),
+    (b"int[] n;", Some(0)),
+    (b"int n = 2147483648;", Some(0)),
+    (b"int n = 1 + 1;", Some(0)),
+    (b"int n = n;", Some(0)),
+    (b"int n = - -1;", Some(0)),
+    (b"Object o = new A();", Some(0)),
+    (b"int n; ;", Some(7)),
+    (b"int n; long m; int k", Some(7)),
+    (b"B() { }", Some(0)),
+    (b"A();", Some(0)),
+    (b"static A() { }", Some(0)),
+    (b"final A() { }", Some(0)),
+    (b"void f();", Some(0)),
+    (b"abstract void f() { }", Some(0)),
+    (b"f() { }", Some(0)),
+    (b"void f(int) { }", Some(0)),
+    (b"void f(int a,) { }", Some(0)),
+    (b"void f(static int a) { }", Some(0)),
+    (b"void f() throws { }", Some(0)),
+    (b"void f() throws X, { }", Some(0)),
+    (b"public void main(String[] a) { }", Some(0)),
+    (b"static void main(String[] a) { }", Some(0)),
+    (b"public static int main(String[] a) { }", Some(0)),
+    (b"public static void start(String[] a) { }", Some(0)),
+    (b"public static void main(B[] a) { }", Some(0)),
+    (b"void f() { } void g() { ; int n;", Some(13)),
+];
+
+/// Statements of a method that are read.
+const READ: [&[u8]; 19] = [
+    b"; { } { { ; } }",
+    b"int a = 1; final boolean b = true; B c = d; { int a = 2; }",
+    b"n = 1; n += m; n -= 1; this.n = 1; a.b.c = 1; (a).b = 1; f().n = 1;",
+    b"n++; n--; ++n; --n; this.n++; --a.n;",
+    b"f(); f(1, a + b); a.f(); this.f(g()); (f()).g(); new B(); new B(1); new B().f();",
+    b"new Thread(new B()).start();",
+    b"if (a) f(); else if (b) { } else ;",
+    b"if (a) while (b) if (c) f(); else g();",
+    b"while (a && !b) n++;",
+    b"for (;;) ;",
+    b"for (int i = 0; i < 3; i++) { }",
+    b"for (final B i = a; ; ) f();",
+    b"for (i = 0; a; f()) for (++i; ; new B()) ;",
+    b"synchronized (this) { } synchronized (A.class) { } synchronized (a.b()) { }",
+    b"return; return a; return \"x\";",
+    b"return a || b && c == d != e < f > g <= h >= i + j - k * l / m % n;",
+    b"return !-a; return - -1; return -2147483648; return !(a == b);",
+    b"return ((a)); return a.b.c(1).d; return new B().f; return this.f(null, true, false);",
+    b"return -2147483648 + 1;",
+];
+
+/// Statements for which the method is refused, at its first token.
+const REFUSED: [&[u8]; 29] = [
+    b"int a;",
+    b"static int a = 1;",
+    b"1;",
+    b"a;",
+    b"a + b;",
+    b"a.b;",
+    b"this;",
+    b"(n) = 1;",
+    b"f() = 1;",
+    b"this = 1;",
+    b"n = m = 1;",
+    b"n *= 2;",
+    b"f()++;",
+    b"++f();",
+    b"++n++;",
+    b"-n;",
+    b"new Thread(a);",
+    b"new Thread(a).run();",
+    b"n = new Thread(a);",
+    b"new B().n;",
+    b"if a f();",
+    b"if (a) else f();",
+    b"if (a) int b = 1;",
+    b"else f();",
+    b"if (a) ; else ; else ;",
+    b"while (a) T t = a;",
+    b"for (a;;) ;",
+    b"for (;;a) ;",
+    b"synchronized (this.class) { }",
+];
+
+/// More of them.
+const REFUSED_TOO: [&[u8]; 29] = [
+    b"new Thread(r).start(a);",
+    b"final n = 1;",
+    b"while () f();",
+    b"while (a)",
+    b"for (;) f();",
+    b"for (;;;) f();",
+    b"for (int i;;) f();",
+    b"for (int i = 0, j = 1;;) f();",
+    b"synchronized (a) f();",
+    b"synchronized { }",
+    b"synchronized (a.b.class) { }",
+    b"return a",
+    b"return 2147483648;",
+    b"return -(2147483648);",
+    b"return -2147483648.f;",
+    b"return a = b;",
+    b"return --a;",
+    b"return f(a,);",
+    b"return f(,a);",
+    b"return f(a)(b);",
+    b"return a..b;",
+    b"return a.this;",
+    b"return ();",
+    b"return (a;",
+    b"return a b;",
+    b"return a +;",
+    b"return A.class;",
+    b"break;",
+    b"throw a;",
 ];
 
 /// Places of the account's file and their lines.
@@ -349,19 +258,94 @@ fn fault_of(read: Result<FileTree, ReadError>) -> Option<ReadError> {
     }
 }
 
-/// The first of the texts that is read otherwise, if there is one.
-fn first_wrong(alloc: Global, texts: &[(&[u8], Option<u32>)]) -> Option<usize> {
+/// What a text is read as between two others.
+fn fault_between(
+    alloc: Global,
+    before: &[u8],
+    text: &[u8],
+    after: &[u8],
+) -> Result<Option<ReadError>, Fail> {
+    let mut whole = before.to_vec(alloc)?;
+    whole.extend_from_slice(text)?;
+    whole.extend_from_slice(after)?;
+    Ok(fault_of(read_file(alloc, whole.as_slice())))
+}
+
+/// The first of the texts that is read otherwise, if there is one. Places count from the first text's end.
+fn first_misplaced(
+    alloc: Global,
+    before: &[u8],
+    texts: &[(&[u8], Option<u32>)],
+    after: &[u8],
+) -> Result<Option<usize>, Fail> {
+    let start = u32::try_from(before.len())?;
     for (index, (text, at)) in texts.iter().enumerate() {
-        if fault_of(read_file(alloc, text)) != at.map(|at| ReadError::Grammar { at }) {
-            return Some(index);
+        let wanted = at.map(|at| ReadError::Grammar {
+            at: at.saturating_add(start),
+        });
+        if fault_between(alloc, before, text, after)? != wanted {
+            return Ok(Some(index));
         }
     }
-    None
+    Ok(None)
+}
+
+/// The first of the statements of a method that is read otherwise, if there is one.
+fn first_mistaken(
+    alloc: Global,
+    texts: &[&[u8]],
+    wanted: Option<ReadError>,
+) -> Result<Option<usize>, Fail> {
+    for (index, text) in texts.iter().enumerate() {
+        if fault_between(alloc, b"class A { int n; void m() { ", text, b" } }")? != wanted {
+            return Ok(Some(index));
+        }
+    }
+    Ok(None)
 }
 
 #[test]
-fn texts(rt: HostRuntime) {
-    assert_eq!(rt; first_wrong(rt.alloc(), &TEXTS), None);
+fn lines_and_types(rt: HostRuntime) -> Result<(), Fail> {
+    assert_eq!(rt;
+        first_misplaced(rt.alloc(), b"", &LINES_AND_TYPES, b"")?,
+        None
+    );
+    Ok(())
+}
+
+#[test]
+fn headers(rt: HostRuntime) -> Result<(), Fail> {
+    assert_eq!(rt; first_misplaced(rt.alloc(), b"", &HEADERS, b"")?, None);
+    Ok(())
+}
+
+#[test]
+fn members(rt: HostRuntime) -> Result<(), Fail> {
+    assert_eq!(rt;
+        first_misplaced(rt.alloc(), b"class A { ", &MEMBERS, b" }")?,
+        None
+    );
+    Ok(())
+}
+
+#[test]
+fn statements(rt: HostRuntime) -> Result<(), Fail> {
+    assert_eq!(rt; first_mistaken(rt.alloc(), &READ, None)?, None);
+    Ok(())
+}
+
+#[test]
+fn faulty_statements(rt: HostRuntime) -> Result<(), Fail> {
+    let fault = Some(ReadError::Grammar { at: 17 });
+    assert_eq!(rt; first_mistaken(rt.alloc(), &REFUSED, fault)?, None);
+    Ok(())
+}
+
+#[test]
+fn more_faulty_statements(rt: HostRuntime) -> Result<(), Fail> {
+    let fault = Some(ReadError::Grammar { at: 17 });
+    assert_eq!(rt; first_mistaken(rt.alloc(), &REFUSED_TOO, fault)?, None);
+    Ok(())
 }
 
 /// One in so many pairs of parentheses, as a method's result.

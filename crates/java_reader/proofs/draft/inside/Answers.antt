@@ -1,7 +1,5 @@
-use Rattle.std.proofs.Common.{◌≡◌, true, false, ◌∙◌, sym}
-use Rattle.java_tree.specs.declared.kind.Kind.TheVariants as k
+use Rattle.std.proofs.Common.{◌∙◌, sym}
 use Rattle.java_phrases.specs.Cursor.{ahead}
-use Rattle.java_phrases.specs.Parser.{sees}
 use Rattle.java_reader.proofs.Advanced.{closing-advances, inner-advances}
 use Rattle.java_reader.proofs.draft.inside.Goals as goal
 

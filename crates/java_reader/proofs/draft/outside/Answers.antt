@@ -1,7 +1,5 @@
-use Rattle.std.proofs.Common.{◌≡◌, true, false, ◌∙◌, sym}
-use Rattle.java_tree.specs.declared.kind.Kind.TheVariants as k
+use Rattle.std.proofs.Common.{◌∙◌, sym}
 use Rattle.java_phrases.specs.Cursor.{ahead}
-use Rattle.java_phrases.specs.Parser.{sees}
 use Rattle.java_reader.proofs.Advanced.{package-advances, import-advances, header-advances}
 use Rattle.java_reader.proofs.draft.outside.Goals as goal
 

@@ -1,4 +1,4 @@
-use Rattle.std.proofs.Common.{sym, ◌∙◌}
+use Rattle.std.proofs.Common.{sym}
 use Rattle.std.proofs.lemmas.Result.{err_from_is_err_and}
 use Rattle.java_phrases.specs.Cursor.{ahead}
 use Rattle.java_reader.proofs.Drafted.{begun-blank}
