@@ -33,6 +33,7 @@ fn reads_tokens(rt: HostRuntime) -> Result<(), Fail> {
     ];
     let mut tokens = tokens_of(alloc, &written)?;
     assert_eq!(rt; tokens.peek(), Some(Kind::IntType));
+    assert_eq!(rt; tokens.next_start(), Some(0));
     assert_eq!(rt; tokens.kind_at(2), Some(Kind::Semicolon));
     assert_eq!(rt; tokens.kind_at(3), None);
     let ty = read_type(alloc, &mut tokens)?;
@@ -41,6 +42,7 @@ fn reads_tokens(rt: HostRuntime) -> Result<(), Fail> {
     assert!(rt; !tokens.sees_text(Kind::Name, b"y".as_slice()));
     let name = tokens.word(alloc, Kind::Name)?;
     assert_eq!(rt; name.name.as_slice(), b"x".as_slice());
+    assert_eq!(rt; tokens.next_start(), Some(6));
     assert_eq!(rt; tokens.sign(Kind::Comma), Err(SyntaxError::NotSpelled));
     assert_eq!(rt; tokens.keep(alloc).len(), 2);
     assert_eq!(rt; tokens.keep(alloc).len(), 0);

@@ -7,3 +7,4 @@ pub mod Causes
 pub mod Order
 pub mod Advanced
 pub mod Looped
+pub mod Again

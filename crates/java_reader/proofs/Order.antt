@@ -42,7 +42,7 @@ follow-behind text from ts rest end (taken, is) f =
     let (mid, first, second) = follow-parts text from ts taken rest end is f in
     follow-down text from mid rest end (follow-within text from taken mid first) second
 
-kept : (kind : TypeKind) (name : List ℕ) (m : MemberTree) (ts rest : List Token) → TypeMember kind name m ts rest → ts ≡ tokens_of m ++ rest
+pub kept : (kind : TypeKind) (name : List ℕ) (m : MemberTree) (ts rest : List Token) → TypeMember kind name m ts rest → ts ≡ tokens_of m ++ rest
 kept sort.Class name m ts rest (s, is) = is
 kept sort.Interface name (member.Sig s) ts rest (p, is) = is
 kept sort.Interface name (member.Field f) ts rest none = absurd none

@@ -135,7 +135,7 @@ one-type c d ts rest left (t1, header, (t2, members, brace)) (u1, other, (u2, ot
     let Q : List Token → Type 0 = λ l. Each (TypeMember c.kind c.name.name) d.members l u2 in
     let moved : Each (TypeMember c.kind c.name.name) d.members t1 u2 = subst Q (sym here) (subst P (sym same) others) in
     let (alike, there) = each-one (TypeMember c.kind c.name.name) (one-inner c.kind c.name.name) c.members d.members t1 t2 u2 members moved
-          (no-member c.kind c.name.name t2 rest brace) (no-member c.kind c.name.name u2 left end) in
+    (no-member c.kind c.name.name t2 rest brace) (no-member c.kind c.name.name u2 left end) in
     let R : List Token → Type 0 = λ l. Mark k.RBrace l left in
     let first : build (header_of c) c.members ≡ build (header_of d) d.members = ap (λ h. build h c.members) same ∙ ap (build (header_of d)) alike in
     (first, one-mark t2 rest left brace (subst R (sym there) end))
@@ -181,5 +181,5 @@ one-file a b ts (t1, s, (t2, i, c)) (u1, t, (u2, j, d)) =
     let Q : List Token → Type 0 = λ l. Each TypeSpells b.types l [] in
     let (types, end) = each-one TypeSpells one-type a.types b.types t2 [] [] c (subst Q (sym there) d) no-type no-type in
     let first : made a.«package» a.imports a.types ≡ made b.«package» b.imports b.types =
-          ap (λ x. made x a.imports a.types) line ∙ ap (λ x. made b.«package» x a.types) imports ∙ ap (made b.«package» b.imports) types in
+    ap (λ x. made x a.imports a.types) line ∙ ap (λ x. made b.«package» x a.types) imports ∙ ap (made b.«package» b.imports) types in
     first

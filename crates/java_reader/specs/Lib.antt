@@ -4,3 +4,4 @@ pub mod Reads
 pub mod Places
 pub mod Drafts
 pub mod Answers
+pub mod Alike

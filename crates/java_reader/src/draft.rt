@@ -62,7 +62,10 @@ fn with_import(alloc: Global, tokens: &mut Tokens, file: FileTree) -> Result<Dra
     let mut file = file;
     let import = read_import(alloc, tokens)?;
     file.imports.push(import)?;
-    Ok(Draft { file, current: None })
+    Ok(Draft {
+        file,
+        current: None,
+    })
 }
 
 /// A type of this header without members.
@@ -141,7 +144,10 @@ fn closed(tokens: &mut Tokens, file: FileTree, class: ClassTree) -> Result<Draft
     tokens.sign(Kind::RBrace)?;
     let mut file = file;
     file.types.push(class)?;
-    Ok(Draft { file, current: None })
+    Ok(Draft {
+        file,
+        current: None,
+    })
 }
 
 /// A part that stands in a body.

@@ -13,12 +13,7 @@ use sqlite_items::Items;
 use std::alloc::Global;
 
 /// One part more, which begins at the place.
-fn next_part(
-    alloc: Global,
-    tokens: &mut Tokens,
-    draft: Draft,
-    at: u32,
-) -> Result<Draft, ReadError>
+fn next_part(alloc: Global, tokens: &mut Tokens, draft: Draft, at: u32) -> Result<Draft, ReadError>
     ensures { AdvancesFrom at draft (ahead tokens.old) result (ahead tokens.new) }
 {
     match with_part(alloc, tokens, draft) {

@@ -12,6 +12,6 @@ mod reader;
 mod tests;
 
 pub use error::ReadError;
-pub use laws::{one_tree, parts_follow};
+pub use laws::{one_spelling, one_tree, parts_follow};
 pub use line::line_of;
 pub use reader::read_file;

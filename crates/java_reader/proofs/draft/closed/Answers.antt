@@ -11,6 +11,8 @@ returns-in_err-sign c =
     rw (p.1, p.2) (λ other x l s. no-brace (ahead c.args.tokens.now) l (c.in_err-sign.ensures other) s.1)
 
 pub returns : goal.returns
-returns c =
-    (tt, (tt, mark-sound k.RBrace (ahead c.args.tokens.now) (ahead c.sign.new.self) c.in_ok-sign.field-0 c.in_ok-sign.ensures.0),
-    closed-draft c.args.file c.args.class c.push.new.self c.in_ok-push.ensures.ok)
+returns c = (
+  tt,
+  (tt, mark-sound k.RBrace (ahead c.args.tokens.now) (ahead c.sign.new.self) c.in_ok-sign.field-0 c.in_ok-sign.ensures.0),
+  closed-draft c.args.file c.args.class c.push.new.self c.in_ok-push.ensures.ok,
+)
