@@ -13,7 +13,7 @@ use Rattle.first_project.specs.Trees.{TreeFile, IsReadAs, AreReadAs, entry_of}
 use Rattle.first_project.specs.Kept.{files_of, tree_file, tree_files, IsRefusalIn}
 use Rattle.first_project.specs.Answers.{AreTaken, AreJudged, AnswersOn, IsFaultOf, IsCauseOf}
 
-entries : (read : List ReadFile) → map entry_of (tree_files read) ≡ files_of (map (λ (r : ReadFile). r.file) read)
+pub entries : (read : List ReadFile) → map entry_of (tree_files read) ≡ files_of (map (λ (r : ReadFile). r.file) read)
 entries [] = refl
 entries (r ∷ read) = ap (λ l. file_of r.file ∷ l) (entries read)
 

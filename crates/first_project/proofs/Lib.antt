@@ -4,3 +4,4 @@ pub mod RepeatMore
 pub mod AsciiTypes
 pub mod Causes
 pub mod OneAnswer
+pub mod Refused

@@ -10,6 +10,8 @@ use Rattle.bundle.specs.Entry.{Entry}
 use Rattle.bundle.specs.File.{file_of}
 use Rattle.bundle.specs.declared.entry.FileEntry.{FileEntry}
 use Rattle.first_judge.specs.Project.{ClassText}
+use Rattle.java_reader.specs.declared.error.ReadError.{ReadError}
+use Rattle.java_reader.specs.declared.error.ReadError.TheVariants as fault
 use Rattle.first_project.specs.declared.reading.ReadFile.{ReadFile}
 use Rattle.first_project.specs.declared.error.ProjectError.{ProjectError}
 use Rattle.first_project.specs.declared.error.ProjectError.TheVariants as error
@@ -24,6 +26,11 @@ tree_file r = record { path = r.file.path.now; text = r.file.text.now; tree = r.
 
 abbrev pub tree_files : List ReadFile → List TreeFile
 tree_files read = map tree_file read
+
+-- what is said of a file that isn't read
+abbrev pub refusal_for : Bor (List ℕ) → ReadError → ProjectError
+refusal_for path fault.OutOfMemory = error.OutOfMemory
+refusal_for path why = error.Unread path why
 
 -- why a file isn't read
 abbrev pub IsRefusal : Entry → ProjectError → Type 0

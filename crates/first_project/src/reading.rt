@@ -4,7 +4,7 @@ ghost use Rattle.bundle.specs.File.{file_of};
 ghost use Rattle.java_reader.specs.Reads.{Reads};
 ghost use Rattle.first_judge.specs.Parts.{class_texts};
 ghost use Rattle.first_project.specs.Trees.{IsReadAs, types_of, class_in};
-ghost use Rattle.first_project.specs.Kept.{files_of, tree_file, tree_files, IsRefusal, IsRefusalIn};
+ghost use Rattle.first_project.specs.Kept.{files_of, tree_file, tree_files, refusal_for, IsRefusal, IsRefusalIn};
 
 use crate::error::ProjectError;
 use bundle::FileEntry;
@@ -21,6 +21,18 @@ pub struct ReadFile<'a> {
     pub tree: FileTree,
 }
 
+// What is said of a file that isn't read.
+fn refusal_for<'a>(path: &'a [u8], why: ReadError) -> ProjectError<'a>
+    ensures { result ≡ refusal_for path.entry why }
+{
+    match why {
+        ReadError::OutOfMemory => ProjectError::OutOfMemory,
+        ReadError::Limit { .. } | ReadError::Lex { .. } | ReadError::Grammar { .. } => {
+            ProjectError::Unread(path, why)
+        }
+    }
+}
+
 fn read_one<'a>(alloc: Global, file: FileEntry<'a>) -> Result<ReadFile<'a>, ProjectError<'a>>
     ensures same { IfOk result (λ read. read.file ≡ file.entry) }
     ensures read { IfOk result (λ read. IsReadAs (tree_file read)) }
@@ -28,8 +40,7 @@ fn read_one<'a>(alloc: Global, file: FileEntry<'a>) -> Result<ReadFile<'a>, Proj
 {
     match read_file(alloc, file.text) {
         Ok(tree) => Ok(ReadFile { file, tree }),
-        Err(ReadError::OutOfMemory) => Err(ProjectError::OutOfMemory),
-        Err(why) => Err(ProjectError::Unread(file.path, why)),
+        Err(why) => Err(refusal_for(file.path, why)),
     }
 }
 

@@ -79,69 +79,225 @@ fn run(
     Ok((code, Bytes::from_slice(alloc, sink.written())?))
 }
 
+/// The class of the broken account.
+const BROKEN_CLASS: &str =
+    "@RegionLock(\"L is this protects Instance\")\nclass Account {\n  int n;\n  synchronized void deposit() { n += 1; }\n  int get() { return n; }\n}\n";
+
+/// A word, an input, the calls that fail of the source and of the sink, and how the run ends.
+const RUNS: [(&str, &str, Option<u64>, Option<u64>, u8, &str); 26] = [
+    (
+        "check",
+        ACCOUNT,
+        None,
+        None,
+        0,
+        ACCOUNT_REPORT,
+    ),
+    (
+        "check",
+        BROKEN,
+        None,
+        None,
+        1,
+        BROKEN_REPORT,
+    ),
+    (
+        "check",
+        "end\n",
+        None,
+        None,
+        0,
+        EMPTY_REPORT,
+    ),
+    (
+        "check",
+        "file Account.java 112\n@RegionLock(\"L is this protects Instance\")\nclass Account {\n  int n;\n  synchronized void deposit() { n += 1; }\n}\n\nend\n ",
+        None,
+        None,
+        6,
+        "bad bundle at 139\n",
+    ),
+    (
+        "check",
+        "file A.java 19\nclass A { long n; }\nend\n",
+        None,
+        None,
+        7,
+        "unreadable A.java grammar at 10\n",
+    ),
+    (
+        "check",
+        "file A.java 13\nclass A { # }\nend\n",
+        None,
+        None,
+        7,
+        "unreadable A.java lex at 10\n",
+    ),
+    (
+        "check",
+        "file A.java 75\nclass aaaaaaaaaaaaaaaaaaaaaaaaaaaaaaaaaaaaaaaaaaaaaaaaaaaaaaaaaaaaaaaaa { }\nend\n",
+        None,
+        None,
+        7,
+        "unreadable A.java name at 6\n",
+    ),
+    (
+        "check",
+        "file B.java 1\n#\nfile A.java 19\nclass A { long n; }\nend\n",
+        None,
+        None,
+        7,
+        "unreadable A.java grammar at 10\n",
+    ),
+    (
+        "check",
+        "file A.java 157\nclass A { int f() { return ((((((((((((((((((((((((((((((((((((((((((((((((((((((((((((((1)))))))))))))))))))))))))))))))))))))))))))))))))))))))))))))); } }\nend\n",
+        None,
+        None,
+        7,
+        "unreadable A.java grammar at 10\n",
+    ),
+    (
+        "check",
+        "file A.java 155\nclass A { int f() { return (((((((((((((((((((((((((((((((((((((((((((((((((((((((((((((1))))))))))))))))))))))))))))))))))))))))))))))))))))))))))))); } }\nend\n",
+        None,
+        None,
+        7,
+        "unreadable A.java form at 0\n",
+    ),
+    (
+        "check",
+        "file A.java 11\nclass A { }\nfile B.java 19\nclass A { long n; }\nend\n",
+        None,
+        None,
+        7,
+        "unreadable B.java grammar at 10\n",
+    ),
+    (
+        "check",
+        "file B.java 11\nclass A { }\nfile A.java 11\nclass A { }\nend\n",
+        None,
+        None,
+        8,
+        "type A in A.java and B.java\n",
+    ),
+    (
+        "check",
+        "file A.java 23\nclass A { } class A { }\nend\n",
+        None,
+        None,
+        8,
+        "type A in A.java and A.java\n",
+    ),
+    (
+        "check",
+        "file B.java 11\nclass B { }\nfile A.java 27\nclass A { } interface B { }\nend\n",
+        None,
+        None,
+        8,
+        "type B in A.java and B.java\n",
+    ),
+    (
+        "check",
+        "file C.java 23\nclass B { } class A { }\nfile A.java 22\nclass A { boolean b; }\nend\n",
+        None,
+        None,
+        8,
+        "type A in A.java and C.java\n",
+    ),
+    (
+        "check",
+        "file A.java 11\nclass A { }\nfile B.java 0\n\nend\n",
+        None,
+        None,
+        7,
+        "unreadable B.java form at 0\n",
+    ),
+    (
+        "check",
+        "file B.java 0\n\nfile A.java 0\n\nend\n",
+        None,
+        None,
+        7,
+        "unreadable A.java form at 0\n",
+    ),
+    (
+        "check",
+        "file B.java 11\nclass B { }\nfile A.java 11\nclass A { }\nend\n",
+        None,
+        None,
+        0,
+        TWO_FILES_REPORT,
+    ),
+    (
+        "check",
+        "file A.java 0\n\nfile A.java 0\n\nend\n",
+        None,
+        None,
+        6,
+        "bad bundle at 15\n",
+    ),
+    (
+        "check",
+        "",
+        None,
+        None,
+        6,
+        "bad bundle at 0\n",
+    ),
+    (
+        "check",
+        "end\n ",
+        None,
+        None,
+        6,
+        "bad bundle at 4\n",
+    ),
+    (
+        "check now",
+        "end\n",
+        None,
+        None,
+        2,
+        USAGE,
+    ),
+    (
+        "check",
+        "end\n",
+        Some(1),
+        None,
+        3,
+        "input fault\n",
+    ),
+    (
+        "check",
+        "end\n",
+        Some(2),
+        None,
+        3,
+        "input fault\n",
+    ),
+    (
+        "check",
+        "end\n",
+        None,
+        Some(1),
+        4,
+        "",
+    ),
+    (
+        "",
+        "end\n",
+        None,
+        None,
+        2,
+        USAGE,
+    ),
+];
+
 #[test]
 fn ends_as_the_input_says(rt: HostRuntime) -> Result<(), Fail> {
-    let cases: [(&str, &str, Option<u64>, Option<u64>, u8, &str); 16] = [
-        ("check", ACCOUNT, None, None, 0, ACCOUNT_REPORT),
-        ("check", BROKEN, None, None, 1, BROKEN_REPORT),
-        ("check", "end\n", None, None, 0, EMPTY_REPORT),
-        (
-            "check",
-            "file A.java 19\nclass A { long n; }\nend\n",
-            None,
-            None,
-            7,
-            "unreadable A.java form at 0\n",
-        ),
-        (
-            "check",
-            "file A.java 11\nclass A { }\nfile B.java 0\n\nend\n",
-            None,
-            None,
-            7,
-            "unreadable B.java form at 0\n",
-        ),
-        (
-            "check",
-            "file B.java 0\n\nfile A.java 0\n\nend\n",
-            None,
-            None,
-            7,
-            "unreadable A.java form at 0\n",
-        ),
-        (
-            "check",
-            "file B.java 11\nclass B { }\nfile A.java 11\nclass A { }\nend\n",
-            None,
-            None,
-            0,
-            TWO_FILES_REPORT,
-        ),
-        (
-            "check",
-            "file B.java 11\nclass A { }\nfile A.java 11\nclass A { }\nend\n",
-            None,
-            None,
-            8,
-            "type A in A.java and B.java\n",
-        ),
-        (
-            "check",
-            "file A.java 0\n\nfile A.java 0\n\nend\n",
-            None,
-            None,
-            6,
-            "bad bundle at 15\n",
-        ),
-        ("check", "", None, None, 6, "bad bundle at 0\n"),
-        ("check", "end\n ", None, None, 6, "bad bundle at 4\n"),
-        ("check now", "end\n", None, None, 2, USAGE),
-        ("check", "end\n", Some(1), None, 3, "input fault\n"),
-        ("check", "end\n", Some(2), None, 3, "input fault\n"),
-        ("check", "end\n", None, Some(1), 4, ""),
-        ("", "end\n", None, None, 2, USAGE),
-    ];
-    for (word, input, input_fails, output_fails, want, text) in cases {
+    for (word, input, input_fails, output_fails, want, text) in RUNS {
         let (code, written) = run(rt.alloc(), word, input, input_fails, output_fails)?;
         assert_eq!(rt; code, want, "{input}");
         assert!(rt; written.as_slice() == text.as_bytes(), "{input}");
@@ -149,37 +305,146 @@ fn ends_as_the_input_says(rt: HostRuntime) -> Result<(), Fail> {
     Ok(())
 }
 
-/// A bundle of one file of blanks.
-fn blanks(alloc: Global, header: &str, count: usize) -> Result<String, Fail> {
-    let mut bundle = String::from_str(alloc, header)?;
-    for _ in 0..count {
-        bundle.push(' ')?;
-    }
-    bundle.push_str("\nend\n")?;
-    Ok(bundle)
-}
+/// Headers of a file, how many bytes of a comment stand behind its class, and how the run ends.
+const LONG_FILES: [(&str, usize, &str); 2] = [
+    (
+        "file Account.java 262144\n",
+        262004,
+        "unreadable Account.java form at 0\n",
+    ),
+    (
+        "file Account.java 262145\n",
+        262005,
+        "limit file bytes 262144\n",
+    ),
+];
 
 #[test]
 fn names_a_limit(rt: HostRuntime) -> Result<(), Fail> {
-    let cases = [
-        (
-            "file A.java 262144\n",
-            262_144,
-            7,
-            "unreadable A.java form at 0\n",
-        ),
-        (
-            "file A.java 262145\n",
-            262_145,
-            9,
-            "limit file bytes 262144\n",
-        ),
-    ];
-    for (header, count, want, text) in cases {
-        let bundle = blanks(rt.alloc(), header, count)?;
-        let (code, written) = run(rt.alloc(), "check", bundle.as_str(), None, None)?;
-        assert_eq!(rt; code, want, "{header}");
+    for (header, count, text) in LONG_FILES {
+        let mut bundle = String::from_str(rt.alloc(), header)?;
+        bundle.push_str(BROKEN_CLASS)?;
+        bundle.push_str("//")?;
+        for _ in 0..count {
+            bundle.push('x')?;
+        }
+        bundle.push_str("\nend\n")?;
+        let (_, written) = run(rt.alloc(), "check", bundle.as_str(), None, None)?;
         assert!(rt; written.as_slice() == text.as_bytes(), "{header}");
+    }
+    Ok(())
+}
+
+/// What eight files of 13723 bytes begin with.
+const MANY_FINDINGS: [&str; 8] = [
+    "file A.java 13723\n@RegionLock(\"L is this protects Instance\") class A{int n;void f(){",
+    "file B.java 13723\n@RegionLock(\"L is this protects Instance\") class B{int n;void f(){",
+    "file C.java 13723\n@RegionLock(\"L is this protects Instance\") class C{int n;void f(){",
+    "file D.java 13723\n@RegionLock(\"L is this protects Instance\") class D{int n;void f(){",
+    "file E.java 13723\n@RegionLock(\"L is this protects Instance\") class E{int n;void f(){",
+    "file F.java 13723\n@RegionLock(\"L is this protects Instance\") class F{int n;void f(){",
+    "file G.java 13723\n@RegionLock(\"L is this protects Instance\") class G{int n;void f(){",
+    "file H.java 13723\n@RegionLock(\"L is this protects Instance\") class H{int n;void f(){",
+];
+
+#[test]
+fn names_the_limit_of_findings(rt: HostRuntime) -> Result<(), Fail> {
+    let mut bundle = String::new(rt.alloc());
+    for class in MANY_FINDINGS {
+        bundle.push_str(class)?;
+        for _ in 0..2731 {
+            bundle.push_str("n+=n;")?;
+        }
+        bundle.push_str("}}\n")?;
+    }
+    bundle.push_str("end\n")?;
+    let (code, written) = run(rt.alloc(), "check", bundle.as_str(), None, None)?;
+    assert_eq!(rt; code, 9);
+    assert!(rt; written.as_slice() == b"limit findings 65536\n".as_slice());
+    Ok(())
+}
+
+/// Texts of files of the first form.
+const OF_THE_FORM: [&str; 15] = [
+    "class A { }",
+    "class A{}",
+    "@RegionLock(\"L is this protects Instance\") class A { }",
+    "class A { int n; }",
+    "class A { int n; int m; }",
+    "class A { void f() { } int n; }",
+    "class A { int n; void f() { n = 1; } }",
+    "class A { void f() { n = 1; } int n; }",
+    "class A { int n; synchronized int f() { n += n; return n; } }",
+    "class A { int n; int f() { return 2147483647; } }",
+    "class A { int n; void n() { n = 0; } }",
+    "class/**/A{int n;//x\n void f(){n=n;}}",
+    "class A { int f() { return 0; } }",
+    "class RegionLock { int RegionLock; void f() { RegionLock += 1; } }",
+    "class A { int n; void f() { n = 1; n += 2; n = n; } synchronized void g() { } }",
+];
+
+/// Texts of files that are read and are of another form.
+const OF_OTHER_FORMS: [&str; 40] = [
+    "",
+    "interface A { }",
+    "class A { } class B { }",
+    "package p; class A { }",
+    "import p.B; class A { }",
+    "public class A { }",
+    "class A implements B { }",
+    "@RegionLock(\"L is this protects instance\") class A { }",
+    "@RegionLock(\"L is this protects Instance\") @RegionLock(\"L is this protects Instance\") class A { }",
+    "@Region(\"L is this protects Instance\") class A { }",
+    "@p.RegionLock(\"L is this protects Instance\") class A { }",
+    "@RegionLock({\"L is this protects Instance\"}) class A { }",
+    "@RegionLock(value = \"L is this protects Instance\") class A { }",
+    "class A { int n; int n; }",
+    "class A { void f() { } void f() { } }",
+    "class A { void f() { } int f() { return 0; } }",
+    "class A { boolean b; }",
+    "class A { B b; }",
+    "class A { final int n; }",
+    "class A { static int n; }",
+    "class A { int n = 1; }",
+    "class A { A() { } }",
+    "class A { public void f() { } }",
+    "class A { static void f() { } }",
+    "class A { void f(int a) { } }",
+    "class A { void f() throws E { } }",
+    "class A { boolean f() { return true; } }",
+    "class A { int n; void f() { m = 1; } }",
+    "class A { int n; void f() { n = m; } }",
+    "class A { int n; int f() { return m; } }",
+    "class A { int n; void f() { n -= 1; } }",
+    "class A { int n; void f() { n++; } }",
+    "class A { int n; void f() { this.n = 1; } }",
+    "class A { int n; void f() { n = n + 1; } }",
+    "class A { int n; void f() { n = -1; } }",
+    "class A { int n; void f() { n = (1); } }",
+    "class A { int n; void f() { int a = 1; } }",
+    "class A { int n; void f() { ; } }",
+    "class A { int f() { return 0; return 0; } }",
+    "class A { void f() { return; } }",
+];
+
+/// The bundle of one file.
+fn bundle_of(alloc: Global, text: &str) -> Result<String, Fail> {
+    let len = text.len();
+    Ok(format!(in alloc; "file A.java {len}\n{text}\nend\n")?)
+}
+
+#[test]
+fn tells_the_first_form_from_others(rt: HostRuntime) -> Result<(), Fail> {
+    let alloc = rt.alloc();
+    for text in OF_THE_FORM {
+        let bundle = bundle_of(alloc, text)?;
+        let (code, _) = run(alloc, "check", bundle.as_str(), None, None)?;
+        assert!(rt; code < 2, "{text}");
+    }
+    for text in OF_OTHER_FORMS {
+        let bundle = bundle_of(alloc, text)?;
+        let (_, written) = run(alloc, "check", bundle.as_str(), None, None)?;
+        assert!(rt; written.as_slice() == b"unreadable A.java form at 0\n".as_slice(), "{text}");
     }
     Ok(())
 }
