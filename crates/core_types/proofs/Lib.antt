@@ -8,3 +8,4 @@ pub mod Calls
 pub mod Steps
 pub mod Wholes
 pub mod Outcomes
+pub mod Numbers
