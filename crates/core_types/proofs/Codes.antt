@@ -212,7 +212,7 @@ ends-loop known n c b k l never h =
     let more : ends false (again n c b k) l ≡ true → ends false b whole || ends false k l ≡ true = λ x.
     or-map (ends false (b ⧺ While n c b Done) (ends false k l)) (ends false k l) (ends false b whole) (ends false k l)
     (λ y. rw (← loop (ends false k l)) (ends-append false b (While n c b Done) (ends false k l) y)) (λ y. y) x in
-    twice (ends false c) (ends false b) (ends false k l) whole refl
+    twice (ends false c) (ends false b) (ends false k l) whole (refl {a = whole})
     (ends-map false c (ends false (again n c b k) l) (ends false b whole || ends false k l) more first)
 
 and-none : (a : Bool) → a && false ≡ false

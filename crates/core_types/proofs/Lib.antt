@@ -9,3 +9,4 @@ pub mod Steps
 pub mod Wholes
 pub mod Outcomes
 pub mod Numbers
+pub mod Sampled

@@ -4,8 +4,10 @@
 
 mod ending;
 mod growing;
+mod sample;
 mod typing;
 
 pub use ending::threads_end_by_faults;
 pub use growing::code_is_typed_by_parts;
+pub use sample::a_counter_is_well_typed;
 pub use typing::types_are_kept;
