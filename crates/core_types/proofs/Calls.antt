@@ -129,9 +129,12 @@ module _ (p : Program) (T : Types) (program : ProgramFits p T) where
 
   pub begun-there : (os : List Obj) (u : ℕ) (code : UnitCode) (args : List Value) (w : Gives) → slice_get p.units u ≡ Some code
       → AllBelong T os args (args_of (of_unit T u)) → GivesThere T os w → IsThere p T os (call_with u code args w)
-  begun-there os u code args w e h g =
-      (rw e refl, there-append T os args (replicate (code.locals - length args) value.Null) (all-there T os args (args_of (of_unit T u)) h)
-      (nulls-there T os (code.locals - length args)), g)
+  begun-there os u code args w e h g = (
+    rw e refl,
+    there-append T os args (replicate (code.locals - length args) value.Null) (all-there T os args (args_of (of_unit T u)) h)
+        (nulls-there T os (code.locals - length args)),
+    g,
+  )
 
   -- the caller awaits what the call gives
   begins-with : (f : Frame) (w : Gives) (u : ℕ) (code : UnitCode) (args : List Value) → slice_get p.units u ≡ Some code → Good p T f
@@ -140,8 +143,10 @@ module _ (p : Program) (T : Types) (program : ProgramFits p T) where
       → Kept p T false (begins f (call_for u (Some code) args w))
   begins-with f w u code args e g h there a = record {
     fields = g.fields;
-    calls = (begun-fits f.objects u code args w e h,
-        (going-known p T f.objects f.call (known_beneath w (of_unit T u).result f.call.temps) f.call.temps g.going, a, g.below));
+    calls = (
+      begun-fits f.objects u code args w e h,
+      (going-known p T f.objects f.call (known_beneath w (of_unit T u).result f.call.temps) f.call.temps g.going, a, g.below),
+    );
     there = (begun-there f.objects u code args w e h there, g.there);
     started = tt;
     ending = refl;

@@ -204,11 +204,16 @@ own-fit (suc (suc c)) info e = absurd (let no : ⊥ = cc in no)
 
 members-fit : (c : ℕ) (info : ClassInfo) → slice_get sample.classes c ≡ Some info → Each (MemberFits sample T c) info.units
 members-fit zero info e =
-    subst (λ (i : ClassInfo). Each (MemberFits sample T 0) i.units) (some-is e)
-    (record { named = refl; there = refl; count = refl; this = (refl, refl) },
-    (record { named = refl; there = refl; count = refl; this = (refl, refl) },
-    (record { named = refl; there = refl; count = refl; this = (refl, refl) },
-    (record { named = refl; there = refl; count = refl; this = tt }, tt))))
+    subst (λ (i : ClassInfo). Each (MemberFits sample T 0) i.units) (some-is e) (
+      record { named = refl; there = refl; count = refl; this = (refl, refl) },
+      (
+        record { named = refl; there = refl; count = refl; this = (refl, refl) },
+        (
+          record { named = refl; there = refl; count = refl; this = (refl, refl) },
+          (record { named = refl; there = refl; count = refl; this = tt }, tt),
+        ),
+      ),
+    )
 members-fit (suc zero) info e =
     subst (λ (i : ClassInfo). Each (MemberFits sample T 1) i.units) (some-is e)
     (record { named = refl; there = refl; count = refl; this = (refl, refl) }, tt)
@@ -223,6 +228,7 @@ source-members m n u e = chosen (3 == m) (0 == n) refl refl e
   where
     equal : (a b : ℕ) → (a == b) ≡ true → a ≡ b
     equal a b h = ⊎_elim (λ y. y.1) (λ d. let f : (a == b) ≡ false = d.0 in absurd (let no : ⊥ = cc in no)) (eqb_tells a b)
+
     chosen : (a b : Bool) → (3 == m) ≡ a → (0 == n) ≡ b
         → option_map (λ (y : UnitName). y.unit) (if a && b then Some (member 3 0 4) else None) ≡ Some u → IsAlike T u (unit_number sample 0 m n)
     chosen true true f g h =

@@ -5,6 +5,8 @@
 mod ending;
 mod growing;
 mod sample;
+#[cfg(test)]
+mod tests;
 mod typing;
 
 pub use ending::threads_end_by_faults;
