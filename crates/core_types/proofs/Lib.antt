@@ -10,3 +10,4 @@ pub mod Wholes
 pub mod Outcomes
 pub mod Numbers
 pub mod Sampled
+pub mod Refused

@@ -1,10 +1,10 @@
 -- Numbers stay in range: units, references and kinds.
-use Rattle.std.proofs.Common.{◌≡◌, ℕ, zero, suc, ◌-◌, ◌==◌, ◌&&◌, ⊎_elim, Bool, true, false, if◌then◌else◌, List, [], ◌∷◌, ◌++◌, Option, Some, None, length, replicate, slice_get, slice_set, is_some, refl, sym, ap, ◌∙◌, subst}
+use Rattle.std.proofs.Common.{◌≡◌, ℕ, zero, suc, ◌==◌, ◌&&◌, ⊎_elim, Bool, true, false, if◌then◌else◌, List, [], ◌∷◌, ◌++◌, Option, Some, None, length, replicate, slice_get, slice_set, is_some, refl, sym, ◌∙◌, subst}
 use Rattle.std.specs.Option.{option_map}
 use Rattle.std.specs.List.{find}
 use Rattle.std.proofs.lemmas.Bool.Decides.{eqb_tells}
 use Rattle.core_model.specs.Objects.{with_field, entered, exited, fresh_object, fresh_count, own_initials}
-use Rattle.core_model.specs.Units.{named_unit, number_in, number_of_class, unit_number}
+use Rattle.core_model.specs.Units.{number_in, number_of_class, unit_number}
 use Rattle.core_model.specs.declared.program.Program.{Program}
 use Rattle.core_model.specs.declared.program.ClassInfo.{ClassInfo}
 use Rattle.core_model.specs.declared.program.UnitName.{UnitName}
@@ -23,7 +23,7 @@ use Rattle.core_laws.proofs.Shaping.{change-kind}
 use Rattle.core_types.specs.Types.{Ty, IntType, BoolType, TextType, NullType, ObjectType, RunnableType, ClassType, AnyType, Types, of_unit}
 use Rattle.core_types.specs.Belonging.{if_kind, is_object, may_run, is_of, Belongs, AllBelong}
 use Rattle.core_types.specs.Programs.{ThisFits, MemberFits, ProgramFits}
-use Rattle.core_types.specs.Configs.{need_in, result_in, AllThere, GivesThere, IsThere, KindThere, KindsThere, AwaitsType, AwaitsResult, AwaitsValue, Awaits, BeneathFit}
+use Rattle.core_types.specs.Configs.{need_in, result_in, AllThere, GivesThere, IsThere, KindThere, KindsThere, AwaitsType, Awaits, BeneathFit}
 use Rattle.core_types.proofs.Widening.{Grows, belongs-grows}
 
 -- ---- values

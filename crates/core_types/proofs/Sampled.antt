@@ -1,11 +1,10 @@
 -- The sample program is well typed.
-use Rattle.std.proofs.Common.{◌≡◌, ◌<◌, ℕ, zero, suc, ◌==◌, ◌||◌, ◌&&◌, not, ⊎_elim, Bool, true, false, if◌then◌else◌, List, [], ◌∷◌, Option, Some, None, slice_get, nat_lt, refl, sym, ap, ◌∙◌, subst, arith}
+use Rattle.std.proofs.Common.{◌≡◌, ◌<◌, ℕ, zero, suc, ◌==◌, ◌||◌, ◌&&◌, not, ⊎_elim, Bool, true, false, if◌then◌else◌, List, [], ◌∷◌, Option, Some, None, slice_get, nat_lt, refl, sym, subst, arith}
 use Rattle.std.proofs.lemmas.Bool.Decides.{eqb_tells}
 use Rattle.std.specs.Option.{option_map}
 use Rattle.core_model.specs.declared.program.UnitName.{UnitName}
 use Rattle.core_model.specs.Objects.{static_initials, own_initials}
 use Rattle.core_model.specs.Units.{unit_number}
-use Rattle.core_model.specs.declared.program.Program.{Program}
 use Rattle.core_model.specs.declared.program.ClassInfo.{ClassInfo}
 use Rattle.core_model.specs.declared.program.UnitCode.{UnitCode}
 use Rattle.core_model.specs.declared.object.Obj.{Obj}
@@ -14,14 +13,14 @@ use Rattle.core_model.specs.declared.object.ObjKind.TheVariants as kind
 use Rattle.core_model.specs.declared.value.Value.{Value}
 use Rattle.core_model.specs.declared.value.Value.TheVariants as value
 use Rattle.core_laws.specs.Places.{Each}
-use Rattle.core_laws.specs.Marks.{Unmarked, HasNoMarks}
+use Rattle.core_laws.specs.Marks.{Unmarked}
 use Rattle.core_laws.specs.Shape.{kind_of}
-use Rattle.core_types.specs.Types.{Ty, IntType, BoolType, of_unit, ObjectType, RunnableType, AnyType, ClassType, Types, of_class, has, is_class, is_runnable}
-use Rattle.core_types.specs.Belonging.{if_kind, refers, may_run, is_of, is_object, Belongs, Suits}
+use Rattle.core_types.specs.Types.{Ty, IntType, BoolType, of_unit, ObjectType, RunnableType, ClassType, Types, of_class, has, is_class, is_runnable}
+use Rattle.core_types.specs.Belonging.{if_kind, refers, may_run, is_of, is_object, Suits}
 use Rattle.core_types.specs.Need.{AllSuit, Fits}
 use Rattle.core_types.specs.Paths.{reads}
 use Rattle.core_types.specs.Programs.{InitialsFit, MemberFits, IsAlike, Implements, RunFits, MainFits, UnitFits, ProgramFits}
-use Rattle.core_types.specs.Sample.{member, add_one, counter, source, main_unit, unit_in, new_code, get_code, run_code, main_code, source_code, sample, sample_types}
+use Rattle.core_types.specs.Sample.{member, add_one, main_unit, unit_in, new_code, get_code, run_code, main_code, source_code, sample, sample_types}
 use Rattle.core_types.proofs.Heaps.{some-is}
 
 abbrev T : Types

@@ -13,8 +13,6 @@ use Rattle.core_model.specs.declared.instr.Plain.{Plain}
 use Rattle.core_model.specs.declared.instr.Plain.TheVariants as plain
 use Rattle.core_model.specs.declared.program.Program.{Program}
 use Rattle.core_model.specs.declared.program.ClassInfo.{ClassInfo}
-use Rattle.core_model.specs.declared.program.FieldInfo.{FieldInfo}
-use Rattle.core_model.specs.declared.program.Initial.{Initial}
 use Rattle.core_model.specs.declared.program.Initial.TheVariants.{Held, FreshObject}
 use Rattle.core_model.specs.declared.program.UnitCode.{UnitCode}
 use Rattle.core_model.specs.declared.program.UnitName.{UnitName}

@@ -1,4 +1,3 @@
-use Rattle.core_types.proofs.Numbers.{member-at}
 use Rattle.core_types.proofs.Codes.{need-append, fits-append, reads-append, ends-append, ends-map}
 use Rattle.core_types.proofs.growing.code_is_typed_by_parts.Goals as goal
 
