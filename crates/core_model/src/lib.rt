@@ -19,8 +19,6 @@ mod plain;
 mod program;
 mod stack;
 mod start;
-#[cfg(test)]
-mod tests;
 mod threads;
 mod unit;
 mod value;

@@ -28,12 +28,13 @@ use Rattle.core_types.specs.Belonging.{refers, may_run, is_of, Belongs, AllBelon
 use Rattle.core_types.specs.Uses.{Goes, Wrong, constructed, of_make, called, called_on, called_static, of_call}
 use Rattle.core_types.specs.Need.{need_of, AllSuit, UseFits}
 use Rattle.core_types.specs.Programs.{ThisFits, IsAlike, RunFits, ProgramFits}
-use Rattle.core_types.specs.Configs.{LocalFits, need_in, TopFits, Awaits, known_beneath}
+use Rattle.core_types.specs.Configs.{GivesThere, IsThere, LocalFits, need_in, TopFits, Awaits, known_beneath}
 use Rattle.core_types.specs.Faults.{null_in, null_under}
 use Rattle.core_types.proofs.Widening.{Grows, all-long, all-take, all-drop, all-grow}
 use Rattle.core_types.proofs.Heaps.{grows-append, fields-made, get-past}
 use Rattle.core_types.proofs.Goings.{going-known}
 use Rattle.core_types.proofs.Codes.{or-left}
+use Rattle.core_types.proofs.Numbers.{belongs-any, all-there, there-append, nulls-there, member-at}
 use Rattle.core_types.proofs.Fields.{is-there, class-is}
 use Rattle.core_types.proofs.Straightly.{Kept, Good, temps, objects, go, end, push-kept, if-kept}
 
@@ -115,7 +116,6 @@ module _ (p : Program) (T : Types) (program : ProgramFits p T) where
       let fits = program.units u code e in
       let n = all-long T os args (args_of (of_unit T u)) h in (
         record {
-          there = rw e refl;
           fits = fits.fits;
           long = length-append args (replicate (code.locals - length args) value.Null)
               ∙ (let l = length-replicate (code.locals - length args) value.Null in
@@ -127,26 +127,38 @@ module _ (p : Program) (T : Types) (program : ProgramFits p T) where
         rw fits.needs tt,
       )
 
+  pub begun-there : (os : List Obj) (u : ℕ) (code : UnitCode) (args : List Value) (w : Gives) → slice_get p.units u ≡ Some code
+      → AllBelong T os args (args_of (of_unit T u)) → GivesThere T os w → IsThere p T os (call_with u code args w)
+  begun-there os u code args w e h g = (
+    rw e refl,
+    there-append T os args (replicate (code.locals - length args) value.Null) (all-there T os args (args_of (of_unit T u)) h)
+        (nulls-there T os (code.locals - length args)),
+    g,
+  )
+
   -- the caller awaits what the call gives
   begins-with : (f : Frame) (w : Gives) (u : ℕ) (code : UnitCode) (args : List Value) → slice_get p.units u ≡ Some code → Good p T f
-      → AllBelong T f.objects args (args_of (of_unit T u)) → Awaits T f.objects w (of_unit T u).result f.call.temps (need_in p T f.call)
+      → AllBelong T f.objects args (args_of (of_unit T u)) → GivesThere T f.objects w
+      → Awaits T f.objects w (of_unit T u).result f.call.temps (need_in p T f.call)
       → Kept p T false (begins f (call_for u (Some code) args w))
-  begins-with f w u code args e g h a = record {
+  begins-with f w u code args e g h there a = record {
     fields = g.fields;
     calls = (
       begun-fits f.objects u code args w e h,
       (going-known p T f.objects f.call (known_beneath w (of_unit T u).result f.call.temps) f.call.temps g.going, a, g.below),
     );
+    there = (begun-there f.objects u code args w e h there, g.there);
     started = tt;
     ending = refl;
   }
 
   begins-kept : (f : Frame) (w : Gives) (u : ℕ) (args : List Value) → Good p T f → is_some (slice_get p.units u) ≡ true
-      → AllBelong T f.objects args (args_of (of_unit T u)) → Awaits T f.objects w (of_unit T u).result f.call.temps (need_in p T f.call)
+      → AllBelong T f.objects args (args_of (of_unit T u)) → GivesThere T f.objects w
+      → Awaits T f.objects w (of_unit T u).result f.call.temps (need_in p T f.call)
       → Kept p T false (begins f (call_of p (Some u) args w))
-  begins-kept f w u args g there h a =
-      let code = class-is (slice_get p.units u) there in
-      subst (λ o. Kept p T false (begins f (call_for u o args w))) (sym code.1) (begins-with f w u code.0 args code.1 g h a)
+  begins-kept f w u args g is h there a =
+      let code = class-is (slice_get p.units u) is in
+      subst (λ o. Kept p T false (begins f (call_for u o args w))) (sym code.1) (begins-with f w u code.0 args code.1 g h there a)
 
   awaits-own : (os : List Obj) (r : Option Ty) (ts : List Value) (l : List Ty) → AllSuit T (option_to_list r) l
       → AllBelong T os ts (drop (length (option_to_list r)) l) → Awaits T os Own r ts l
@@ -177,7 +189,7 @@ module _ (p : Program) (T : Types) (program : ProgramFits p T) where
     unit = v;
     of_class_is = rw (e, k) refl;
     number = number;
-    takes = λ vs h. rw (this-is d (of_unit T v).this instance (program.members d m n v number).this, params) (made-belongs os r d o e k, h);
+    takes = λ vs h. rw (this-is d (of_unit T v).this instance (member-at p T program d m n v number).this, params) (made-belongs os r d o e k, h);
     result = result;
   }
 
@@ -204,7 +216,7 @@ module _ (p : Program) (T : Types) (program : ProgramFits p T) where
       → unit_number p d 2 0 ≡ v → RunFits T v → Answer os 2 0 r [] None
   answer-found os r d o None e k number h = absurd h
   answer-found os r d o (Some v) e k number h =
-      answer os 2 0 r d v o [] None e k number h.0 (empty-is (of_unit T v).params (program.members d 2 0 v number).count) h.1
+      answer os 2 0 r d v o [] None e k number h.0 (empty-is (of_unit T v).params (member-at p T program d 2 0 v number).count) h.1
     where
       empty-is : (ts : List Ty) → length ts ≡ 0 → ts ≡ []
       empty-is [] e = refl
@@ -222,7 +234,7 @@ module _ (p : Program) (T : Types) (program : ProgramFits p T) where
   answered f m n r vs ps res g a h w =
       subst (λ (o : Option ℕ). Kept p T false (call_in p f m n (value.Ref r ∷ vs) o)) (sym a.of_class_is)
       (subst (λ (o : Option ℕ). Kept p T false (begins f (call_of p o (value.Ref r ∷ vs) Own))) (sym a.number)
-      (begins-kept f Own a.unit (value.Ref r ∷ vs) g (program.members a.class m n a.unit a.number).there (a.takes vs h)
+      (begins-kept f Own a.unit (value.Ref r ∷ vs) g (member-at p T program a.class m n a.unit a.number).there (a.takes vs h) tt
       (rw a.result w)))
 
   on-kept : (f : Frame) (m n : ℕ) (v : Value) (vs : List Value) (test : ObjKind → Bool) (ps : List Ty) (res : Option Ty) → Good p T f
@@ -232,7 +244,7 @@ module _ (p : Program) (T : Types) (program : ProgramFits p T) where
   on-kept f m n (value.Int x) vs test ps res g r h a w = absurd (let no : ⊥ = cc in no)
   on-kept f m n (value.Bool b) vs test ps res g r h a w = absurd (let no : ⊥ = cc in no)
   on-kept f m n (value.Str s) vs test ps res g r h a w = absurd (let no : ⊥ = cc in no)
-  on-kept f m n value.Null vs test ps res g r h a w = end p T program f g.fields
+  on-kept f m n value.Null vs test ps res g r h a w = end p T program f g.fields g.below g.there
   on-kept f m n (value.Ref q) vs test ps res g r h a w = answered f m n q vs ps res g (a q r) h w
 
   on-args : (f : Frame) (m n : ℕ) (args : List Value) (t : Ty) (ps : List Ty) (test : ObjKind → Bool) (res : Option Ty) → Good p T f
@@ -267,7 +279,7 @@ module _ (p : Program) (T : Types) (program : ProgramFits p T) where
       → UseFits T (called (of_unit T u)) (need_in p T f.call) → AllBelong T f.objects ts (need_of (called (of_unit T u)) (need_in p T f.call))
       → Kept p T (null_under n ts) (call_from p f m n ts)
   on-class f c m n u ts number instance g s h =
-      let member = program.members c m n u number in
+      let member = member-at p T program c m n u number in
       let this = this-is c (of_unit T u).this instance member.this in
       call-kept f m n ts (ClassType c) (of_unit T u).params (drop (length (option_to_list (of_unit T u).result)) (need_in p T f.call)) (is_of T c)
       (of_unit T u).result g member.count
@@ -316,7 +328,7 @@ module _ (p : Program) (T : Types) (program : ProgramFits p T) where
       → UseFits T (called (of_unit T u)) (need_in p T f.call) → AllBelong T f.objects ts (need_of (called (of_unit T u)) (need_in p T f.call))
       → Kept p T false (call_static_from p f c m n ts)
   static-in f c m n u ts number instance g s h =
-      let member = program.members c m n u number in
+      let member = member-at p T program c m n u number in
       let none = this-none (of_unit T u).this instance in
       let long : n ≡ length (args_of (of_unit T u)) = rw none (sym member.count) in
       let us : List Ty = drop (length (option_to_list (of_unit T u).result)) (need_in p T f.call) in
@@ -325,7 +337,7 @@ module _ (p : Program) (T : Types) (program : ProgramFits p T) where
       if-kept p T program (nat_le n (length ts)) (begins (with_temps f (drop n ts)) (call_of p (unit_number p c m n) (reverse (take n ts)) Own)) (ends f)
       (le-leb n (length ts) few)
       (subst (λ (o : Option ℕ). Kept p T false (begins (with_temps f (drop n ts)) (call_of p o (reverse (take n ts)) Own))) (sym number)
-      (begins-kept (with_temps f (drop n ts)) Own u (reverse (take n ts)) (temps p T program f (drop n ts) g) member.there args.0
+      (begins-kept (with_temps f (drop n ts)) Own u (reverse (take n ts)) (temps p T program f (drop n ts) g) member.there args.0 tt
       (awaits-own f.objects (of_unit T u).result (drop n ts) (need_in p T f.call) s args.1)))
 
   static-number : (f : Frame) (c m n : ℕ) (o : Option ℕ) (ts : List Value) → unit_number p c m n ≡ o → Good p T f
@@ -374,9 +386,9 @@ module _ (p : Program) (T : Types) (program : ProgramFits p T) where
       → Belongs T f.objects (value.Ref r) (ClassType c) → AllBelong T f.objects args (of_unit T u).params → AllSuit T (ClassType c ∷ []) (need_in p T f.call)
       → AllBelong T f.objects f.call.temps (drop 1 (need_in p T f.call)) → Kept p T false (construct p f r args (Some u))
   construct-kept f c n r u args number instance g b h s t =
-      let member = program.members c 0 n u number in
+      let member = member-at p T program c 0 n u number in
       begins-kept f (Object r) u (value.Ref r ∷ args) g member.there
-      (rw (this-is c (of_unit T u).this instance member.this) (b, h))
+      (rw (this-is c (of_unit T u).this instance member.this) (b, h)) (belongs-any T f.objects (value.Ref r) (ClassType c) b)
       (awaits-made f.objects r c (of_unit T u).result f.call.temps (need_in p T f.call) b s t)
 
   make-unit : (f : Frame) (c n u : ℕ) (info : ClassInfo) (ts : List Value) → unit_number p c 0 n ≡ Some u → is_instance (of_unit T u) ≡ true
@@ -384,7 +396,7 @@ module _ (p : Program) (T : Types) (program : ProgramFits p T) where
       → AllBelong T f.objects ts (reverse (of_unit T u).params ++ drop 1 (need_in p T f.call))
       → Kept p T false (make_from p f c n ts)
   make-unit f c n u info ts number instance e g s h =
-      let member = program.members c 0 n u number in
+      let member = member-at p T program c 0 n u number in
       let us : List Ty = drop 1 (need_in p T f.call) in
       let args = args-belong T f.objects ts (of_unit T u).params us n (sym member.count) h in
       let few : n ≤ length ts = omega (arith, enough T f.objects ts (of_unit T u).params us h, member.count) in
@@ -450,13 +462,19 @@ module _ (p : Program) (T : Types) (program : ProgramFits p T) where
   starts-kept : (f : Frame) (r : ℕ) (ts : List Value) → Good p T f → Answer f.objects 2 0 r [] None → AllBelong T f.objects ts (need_in p T f.call)
       → Kept p T false (start_from p f (value.Ref r ∷ ts))
   starts-kept f r ts g a h =
-      let code = class-is (slice_get p.units a.unit) (program.members a.class 2 0 a.unit a.number).there in
+      let code = class-is (slice_get p.units a.unit) (member-at p T program a.class 2 0 a.unit a.number).there in
       let top = begun-fits f.objects a.unit code.0 (value.Ref r ∷ []) Own code.1 (a.takes [] tt) in
       let gone = go p T program f ts g h in
       subst (λ (o : Option ℕ). Kept p T false (start_in p (with_temps f ts) (value.Ref r) o)) (sym a.of_class_is)
       (subst (λ (o : Option ℕ). Kept p T false (start_with (with_temps f ts) (call_of p o (value.Ref r ∷ []) Own))) (sym a.number)
       (subst (λ o. Kept p T false (start_with (with_temps f ts) (call_for a.unit o (value.Ref r ∷ []) Own))) (sym code.1)
-      (record { fields = gone.fields; calls = gone.calls; started = (top, tt); ending = refl })))
+      (record {
+        fields = gone.fields;
+        calls = gone.calls;
+        there = gone.there;
+        started = ((top, tt), (begun-there f.objects a.unit code.0 (value.Ref r ∷ []) Own code.1 (a.takes [] tt) tt, tt));
+        ending = refl;
+      })))
 
   pub start-kept : (f : Frame) (ts : List Value) → Good p T f → AllBelong T f.objects ts (RunnableType ∷ need_in p T f.call)
       → Kept p T false (start_from p f ts)

@@ -207,12 +207,12 @@ ends-loop : (known : Bool) (n : Note) (c b k : Code) (l : Bool) → is_always_tr
     → ends known (c ⧺ again n c b k) l ≡ true → ends false c (ends false b false || ends false k l) ≡ true
 ends-loop known n c b k l never h =
     let whole : Bool = ends false c (ends false b false || ends false k l) in
-    let loop : (m : Bool) → ends false (While n c b Done) m ≡ ends false c (ends false b false || m) = λ m. rw never refl in
+    let loop : (m : Bool) → ends false (While n c b Done) m ≡ ends false c (ends false b false || m) = λ m. rw never (refl {a = ends false c (ends false b false || m)}) in
     let first : ends false c (ends false (again n c b k) l) ≡ true = ends-known known c (ends false (again n c b k) l) (ends-append known c (again n c b k) l h) in
     let more : ends false (again n c b k) l ≡ true → ends false b whole || ends false k l ≡ true = λ x.
     or-map (ends false (b ⧺ While n c b Done) (ends false k l)) (ends false k l) (ends false b whole) (ends false k l)
     (λ y. rw (← loop (ends false k l)) (ends-append false b (While n c b Done) (ends false k l) y)) (λ y. y) x in
-    twice (ends false c) (ends false b) (ends false k l) whole refl
+    twice (ends false c) (ends false b) (ends false k l) whole (refl {a = whole})
     (ends-map false c (ends false (again n c b k) l) (ends false b whole || ends false k l) more first)
 
 and-none : (a : Bool) → a && false ≡ false

@@ -17,16 +17,16 @@ use Rattle.core_types.proofs.Widening.{Found, all-get, all-set}
 use Rattle.core_types.proofs.Heaps.{some-is, Holders, fields-changed}
 
 -- an object is there
-pub record IsThere (os : List Obj) (r : ℕ) (test : ObjKind → Bool) : Type 0 where
+pub record IsFound (os : List Obj) (r : ℕ) (test : ObjKind → Bool) : Type 0 where
   pub obj : Obj
   pub found : slice_get os r ≡ Some obj
   pub passes : test obj.kind ≡ true
 
-there-in : (os : List Obj) (r : ℕ) (test : ObjKind → Bool) (o : Option Obj) → slice_get os r ≡ o → if_kind (kind_of o) test ≡ true → IsThere os r test
+there-in : (os : List Obj) (r : ℕ) (test : ObjKind → Bool) (o : Option Obj) → slice_get os r ≡ o → if_kind (kind_of o) test ≡ true → IsFound os r test
 there-in os r test None e h = absurd (let no : ⊥ = cc in no)
 there-in os r test (Some x) e h = record { obj = x; found = e; passes = h }
 
-pub is-there : (os : List Obj) (r : ℕ) (test : ObjKind → Bool) → if_kind (kind_of (slice_get os r)) test ≡ true → IsThere os r test
+pub is-there : (os : List Obj) (r : ℕ) (test : ObjKind → Bool) → if_kind (kind_of (slice_get os r)) test ≡ true → IsFound os r test
 is-there os r test h = there-in os r test (slice_get os r) refl h
 
 -- it has a field of the type
@@ -85,7 +85,7 @@ types-there None i t e = absurd (let no : ⊥ = cc in no)
 types-there (Some c) i t e = refl
 
 holder-in : (os : List Obj) (c : ℕ) (o : Option Obj) → slice_get os c ≡ o → kind_of o ≡ Some (kind.Holder c)
-    → IsThere os c (λ (k : ObjKind). true)
+    → IsFound os c (λ (k : ObjKind). true)
 holder-in os c None e h = absurd (let no : ⊥ = cc in no)
 holder-in os c (Some x) e h = record { obj = x; found = e; passes = refl }
 

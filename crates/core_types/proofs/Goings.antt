@@ -19,6 +19,7 @@ use Rattle.core_types.specs.Programs.{Returns}
 use Rattle.core_types.specs.Configs.{LocalFits, IsGoing, need_in, result_in, AwaitsType, Awaits, known_beneath, BeneathFit, ResultFits, CallsFit, ThreadFits}
 use Rattle.core_types.proofs.Widening.{Grows, belongs-grows, all-grow}
 use Rattle.core_types.proofs.Codes.{ends-known}
+use Rattle.core_types.proofs.Numbers.{temps-there-grow}
 
 -- ---- code goes on
 
@@ -41,7 +42,6 @@ pub going-on : (p : Program) (T : Types) (os : List Obj) (c : Call) (known now :
     → (ends now k true ≡ true → ends known c.rest true ≡ true)
     → IsGoing p T os known c → IsGoing p T os now (record c { rest = k; temps = ts })
 going-on p T os c known now k ts fits reads-less ends-less g = record {
-  there = g.there;
   fits = fits;
   long = g.long;
   locals = λ i h. g.locals i (reads-less i h);
@@ -51,7 +51,6 @@ going-on p T os c known now k ts fits reads-less ends-less g = record {
 pub going-known : (p : Program) (T : Types) (os : List Obj) (c : Call) (known : Bool) (ts : List Value)
     → IsGoing p T os false c → IsGoing p T os known (record c { temps = ts })
 going-known p T os c known ts g = record {
-  there = g.there;
   fits = g.fits;
   long = g.long;
   locals = g.locals;
@@ -60,7 +59,7 @@ going-known p T os c known ts g = record {
 
 pub going-same : (p : Program) (T : Types) (os : List Obj) (c : Call) (known : Bool) (ts : List Value)
     → IsGoing p T os known c → IsGoing p T os known (record c { temps = ts })
-going-same p T os c known ts g = record { there = g.there; fits = g.fits; long = g.long; locals = g.locals; returns = g.returns }
+going-same p T os c known ts g = record { fits = g.fits; long = g.long; locals = g.locals; returns = g.returns }
 
 -- ---- objects change
 
@@ -71,7 +70,6 @@ local-grows T os ns (Some v) (Some t) g h = belongs-grows T os ns v t g h
 
 pub going-grows : (p : Program) (T : Types) (os ns : List Obj) (known : Bool) (c : Call) → Grows os ns → IsGoing p T os known c → IsGoing p T ns known c
 going-grows p T os ns known c g h = record {
-  there = h.there;
   fits = h.fits;
   long = h.long;
   locals = λ i r. local-grows T os ns (slice_get c.locals i) (slice_get (locals_of (of_unit T c.unit)) i) g (h.locals i r);
@@ -111,9 +109,9 @@ calls-grow p T os ns mode.Running (c ∷ cs) g h = (
 )
 calls-grow p T os ns (mode.Leaving v) [] g h = absurd h
 calls-grow p T os ns (mode.Leaving v) (c ∷ cs) g h =
-    (result-grows T os ns (result_in T c) v g h.0, beneath-grows p T os ns c.gives (result_in T c) cs g h.1)
+    (result-grows T os ns (result_in T c) v g h.0, h.1, beneath-grows p T os ns c.gives (result_in T c) cs g h.2)
 calls-grow p T os ns mode.Ending [] g h = absurd h
-calls-grow p T os ns mode.Ending (c ∷ cs) g h = tt
+calls-grow p T os ns mode.Ending (c ∷ cs) g h = (h.0, temps-there-grow T os ns cs g h.1)
 calls-grow p T os ns mode.Over [] g h = tt
 calls-grow p T os ns mode.Over (c ∷ cs) g h = absurd h
 

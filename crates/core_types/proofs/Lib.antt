@@ -8,3 +8,6 @@ pub mod Calls
 pub mod Steps
 pub mod Wholes
 pub mod Outcomes
+pub mod Numbers
+pub mod Sampled
+pub mod Refused

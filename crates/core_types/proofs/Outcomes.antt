@@ -27,7 +27,8 @@ use Rattle.core_laws.proofs.Owners.{get-set}
 use Rattle.core_laws.proofs.Others.{get-front}
 use Rattle.core_laws.proofs.Plains.{IsKeeping, kept-plain, kept-if}
 use Rattle.core_types.specs.Types.{Types}
-use Rattle.core_types.specs.Configs.{CallsFit, ThreadFits, ConfigFits}
+use Rattle.core_laws.specs.Places.{Each}
+use Rattle.core_types.specs.Configs.{IsThere, CallsFit, ThreadFits, ConfigFits}
 use Rattle.core_types.specs.Faults.{faults, is_ending_thread, is_over, is_over_thread, is_clear, leaves_last}
 use Rattle.core_types.proofs.Steps.{running-found, leaving-found, moved-kept}
 
@@ -46,19 +47,22 @@ thread-after p c t h e =
 found-thread : (p : Program) (T : Types) (c : Config) (t : ℕ) (h : Thread) → ConfigFits p T c → slice_get c.threads t ≡ Some h → ThreadFits p T c.objects h
 found-thread p T c t h w e = each-get (λ (x : Thread). ThreadFits p T c.objects x) c.threads t h e w.threads
 
+found-there : (p : Program) (T : Types) (c : Config) (t : ℕ) (h : Thread) → ConfigFits p T c → slice_get c.threads t ≡ Some h → Each (IsThere p T c.objects) h.calls
+found-there p T c t h w e = each-get (λ (x : Thread). Each (IsThere p T c.objects) x.calls) c.threads t h e w.there
+
 pub ends-by-fault : (p : Program) (T : Types) (c : Config) (t : ℕ) (call : Call) (below : List Call) → ConfigFits p T c
     → slice_get c.threads t ≡ Some (record { calls = call ∷ below; mode = mode.Running })
     → is_ending_thread (slice_get (step p c t).threads t) ≡ faults call.rest call.temps
 ends-by-fault p T c t call below w e =
     ap is_ending_thread (thread-after p c t _ e)
-    ∙ (running-found p T w.program t (record { objects = c.objects; call = call; below = below }) w.fields w.shaped.holders (found-thread p T c t _ w e)).ending
+    ∙ (running-found p T w.program t (record { objects = c.objects; call = call; below = below }) w.fields w.shaped.holders (found-there p T c t _ w e) (found-thread p T c t _ w e)).ending
 
 pub never-ends : (p : Program) (T : Types) (c : Config) (t : ℕ) (call : Call) (below : List Call) (v : Option Value) → ConfigFits p T c
     → slice_get c.threads t ≡ Some (record { calls = call ∷ below; mode = mode.Leaving v })
     → is_ending_thread (slice_get (step p c t).threads t) ≡ false
 never-ends p T c t call below v w e =
     ap is_ending_thread (thread-after p c t _ e)
-    ∙ (leaving-found p T w.program (record { objects = c.objects; call = call; below = below }) v w.fields (found-thread p T c t _ w e)).ending
+    ∙ (leaving-found p T w.program (record { objects = c.objects; call = call; below = below }) v w.fields (found-there p T c t _ w e) (found-thread p T c t _ w e)).ending
 
 -- ---- threads that are over
 
@@ -197,4 +201,4 @@ over-by-leaving p T c t call below m w e =
     let h : Thread = record { calls = call ∷ below; mode = m } in
     ap is_over_thread (thread-after p c t _ e)
     ∙ over-move p T t (record { objects = c.objects; call = call; below = below }) m calls
-    (moved-kept p T w.program t c.objects h (call ∷ below) w.fields w.shaped.holders calls).calls
+    (moved-kept p T w.program t c.objects h (call ∷ below) w.fields w.shaped.holders (found-there p T c t _ w e) calls).calls

@@ -22,20 +22,21 @@ use Rattle.core_model.specs.declared.frame.Frame.{Frame}
 use Rattle.core_model.specs.declared.frame.After.{After}
 use Rattle.core_model.specs.declared.value.Value.{Value}
 use Rattle.core_model.specs.declared.value.Value.TheVariants as value
-use Rattle.core_laws.specs.Places.{again}
 use Rattle.core_types.specs.Types.{Ty, Types, of_unit, locals_of}
 use Rattle.core_types.specs.Belonging.{is_object, AllBelong}
 use Rattle.core_types.specs.Uses.{returned}
 use Rattle.core_types.specs.Need.{need, need_of, UseFits, Fits}
 use Rattle.core_types.specs.Paths.{reads, reads_by, ends, ends_by, is_true, true_on_top, pushes_true}
 use Rattle.core_types.specs.Programs.{ProgramFits, Returns}
-use Rattle.core_types.specs.Configs.{FieldsFit, IsGoing, need_in, result_in, AwaitsType, AwaitsValue, BeneathFit, ResultFits, CallsFit}
+use Rattle.core_types.specs.Configs.{IsThere, FieldsFit, IsGoing, need_in, result_in, AwaitsType, AwaitsValue, BeneathFit, ResultFits, CallsFit}
 use Rattle.core_types.specs.Faults.{faults, null_under, is_ending}
 use Rattle.core_types.proofs.Widening.{Grows, all-grow}
 use Rattle.core_types.proofs.Heaps.{Holders, grows-changed, fields-changed}
 use Rattle.core_types.proofs.Goings.{going-on, going-known, going-grows, beneath-grows, result-grows}
 use Rattle.core_types.proofs.Codes.{need-append, fits-append, need-turn, fits-turn, reads-append, reads-turn, or-left, or-right, ends-known, ends-append, ends-turn}
-use Rattle.core_types.proofs.Fields.{IsThere, is-there, holder-there}
+use Rattle.core_laws.specs.Places.{again, Each}
+use Rattle.core_types.proofs.Numbers.{TempsThere, calls-there-grow, temps-there-grow}
+use Rattle.core_types.proofs.Fields.{IsFound, is-there, holder-there}
 use Rattle.core_types.proofs.Straightly.{Kept, Good, end, const-kept, get-kept, set-kept, drop-kept, neg-kept, not-kept, operate-kept, of-field-kept, of-keep-kept, of-put-kept, static-kept, put-static-kept, plain-kept}
 use Rattle.core_types.proofs.Calls.{make-kept, of-call-kept, call-static-kept, start-kept}
 
@@ -47,6 +48,7 @@ module _ (p : Program) (T : Types) (program : ProgramFits p T) where
     going : IsGoing p T f.objects (true_on_top f.call.temps) (record f.call { rest = k })
     filled : AllBelong T f.objects f.call.temps (need p T (of_unit T f.call.unit) k [])
     below : BeneathFit p T f.objects f.call.gives (result_in T f.call) f.below
+    there : Each (IsThere p T f.objects) (f.call ∷ f.below)
 
   -- with the first instruction taken
   past : (f : Frame) (k l : Code) → Found f k → Fits p T (of_unit T f.call.unit) l []
@@ -58,6 +60,7 @@ module _ (p : Program) (T : Types) (program : ProgramFits p T) where
     holders = g.holders;
     going = going-on p T f.objects (record f.call { rest = k }) (true_on_top f.call.temps) false l f.call.temps fits r e g.going;
     below = g.below;
+    there = g.there;
   }
 
   plainly : (f : Frame) (n : Note) (i : Plain) (k : Code) → Found f (Do n i k)
@@ -70,7 +73,7 @@ module _ (p : Program) (T : Types) (program : ProgramFits p T) where
   const-found f n v k g =
       const-kept p T program (with_rest f k) v g.going.fits.0 g.filled g.fields
       (going-on p T f.objects (record f.call { rest = Do n (plain.Const v) k }) (true_on_top f.call.temps) (is_true v) k f.call.temps g.going.fits.1 (λ i h. h) (λ h. h) g.going)
-      g.below
+      g.below g.there
 
   same-true : (i : ℕ) → (i == i) ≡ true
   same-true i = ⊎_elim (λ y. y.0) (λ d. absurd (d.1 refl)) (eqb_tells i i)
@@ -81,19 +84,20 @@ module _ (p : Program) (T : Types) (program : ProgramFits p T) where
 
   value-found : (f : Frame) (n : Note) (k : Code) (r : Option Ty) (ts : List Value) → UseFits T (returned r) (need_in p T (record f.call { rest = k }))
       → AllBelong T f.objects ts (need_of (returned r) (need_in p T (record f.call { rest = k })))
-      → FieldsFit T f.objects → BeneathFit p T f.objects f.call.gives (result_in T f.call) f.below → result_in T f.call ≡ r
+      → FieldsFit T f.objects → BeneathFit p T f.objects f.call.gives (result_in T f.call) f.below
+      → Each (IsThere p T f.objects) (f.call ∷ f.below) → result_in T f.call ≡ r
       → Kept p T false (return_value_from (with_rest f k) ts)
-  value-found f n k None ts s h fields below e = absurd s
-  value-found f n k (Some t) [] s h fields below e = absurd h
-  value-found f n k (Some t) (v ∷ ts) s h fields below e =
-      record { fields = fields; calls = (subst (λ r. ResultFits T f.objects r (Some v)) (sym e) h.0, below); started = tt; ending = refl }
+  value-found f n k None ts s h fields below there e = absurd s
+  value-found f n k (Some t) [] s h fields below there e = absurd h
+  value-found f n k (Some t) (v ∷ ts) s h fields below there e =
+      record { fields = fields; calls = (subst (λ r. ResultFits T f.objects r (Some v)) (sym e) h.0, refl, below); there = there; started = tt; ending = refl }
 
   do-found : (f : Frame) (n : Note) (i : Plain) (k : Code) → Found f (Do n i k) → Kept p T (faults (Do n i k) f.call.temps) (do_plain p (with_rest f k) i)
   do-found f n (plain.Const v) k g = const-found f n v k g
   do-found f n (plain.Get i) k g =
       get-kept p T program (with_rest f k) i (slice_get (locals_of (of_unit T f.call.unit)) i)
       (plainly f n (plain.Get i) k g (λ j l h. or-right (j == i) l h) (λ h. h)) g.going.fits.0 g.filled (g.going.locals i (or-left (i == i) (reads i k false) (same-true i)))
-  do-found f n (plain.Set i) k g = set-kept p T program f n i k f.call.temps (true_on_top f.call.temps) g.fields g.below g.going g.filled
+  do-found f n (plain.Set i) k g = set-kept p T program f n i k f.call.temps (true_on_top f.call.temps) g.fields g.below g.there g.going g.filled
   do-found f n plain.Drop k g = drop-kept p T program (with_rest f k) f.call.temps (plainly f n plain.Drop k g (λ j l h. h) (λ h. h)) g.filled
   do-found f n (plain.Field i) k g =
       of-field-kept p T program (with_rest f k) n.known i f.call.temps (plainly f n (plain.Field i) k g (λ j l h. h) (λ h. h)) g.going.fits.0 g.filled
@@ -123,12 +127,13 @@ module _ (p : Program) (T : Types) (program : ProgramFits p T) where
       start-kept p T program (with_rest f k) f.call.temps (plainly f n plain.Start k g (λ j l h. h) (λ h. h)) g.filled
   do-found f n plain.Return k g = record {
     fields = g.fields;
-    calls = (return-found f n k (result_in T f.call) g.going.returns, g.below);
+    calls = (return-found f n k (result_in T f.call) g.going.returns, refl, g.below);
+    there = g.there;
     started = tt;
     ending = refl;
   }
   do-found f n plain.ReturnValue k g =
-      value-found f n k (result_in T f.call) f.call.temps g.going.fits.0 g.filled g.fields g.below refl
+      value-found f n k (result_in T f.call) f.call.temps g.going.fits.0 g.filled g.fields g.below g.there refl
 
   -- ---- instructions with code inside
 
@@ -141,6 +146,7 @@ module _ (p : Program) (T : Types) (program : ProgramFits p T) where
   goes-with f k l ts g fits r e h = record {
     fields = g.fields;
     calls = ((going-on p T f.objects (record f.call { rest = k }) (true_on_top f.call.temps) (true_on_top ts) l ts fits r e g.going, h), g.below);
+    there = g.there;
     started = tt;
     ending = refl;
   }
@@ -187,6 +193,7 @@ module _ (p : Program) (T : Types) (program : ProgramFits p T) where
     going = going-grows p T f.objects ns (true_on_top f.call.temps) (record f.call { rest = k }) w g.going;
     filled = all-grow T f.objects ns f.call.temps (need p T (of_unit T f.call.unit) k []) w g.filled;
     below = beneath-grows p T f.objects ns f.call.gives (result_in T f.call) f.below w g.below;
+    there = calls-there-grow p T f.objects ns (f.call ∷ f.below) w g.there;
   }
 
   -- only the monitor of an object is changed
@@ -224,10 +231,10 @@ module _ (p : Program) (T : Types) (program : ProgramFits p T) where
       absurd (let h = (subst (λ l. AllBelong T f.objects l (need p T (of_unit T f.call.unit) (Enter n b k) [])) e g.filled).0 in let no : ⊥ = cc in no)
   enter-found t f n b k (value.Str x ∷ ts) e g =
       absurd (let h = (subst (λ l. AllBelong T f.objects l (need p T (of_unit T f.call.unit) (Enter n b k) [])) e g.filled).0 in let no : ⊥ = cc in no)
-  enter-found t f n b k (value.Null ∷ ts) e g = end p T program (with_rest f k) g.fields
+  enter-found t f n b k (value.Null ∷ ts) e g = end p T program (with_rest f k) g.fields g.below g.there
   enter-found t f n b k (value.Ref r ∷ ts) e g = chosen (blocks t (slice_get f.objects r))
     where
-      there : (os : List Obj) (q : ℕ) → IsThere os q is_object → is_some (slice_get os q) ≡ true
+      there : (os : List Obj) (q : ℕ) → IsFound os q is_object → is_some (slice_get os q) ≡ true
       there os q h = rw h.found refl
 
       h : AllBelong T f.objects (value.Ref r ∷ ts) (need p T (of_unit T f.call.unit) (Enter n b k) [])
@@ -266,18 +273,20 @@ module _ (p : Program) (T : Types) (program : ProgramFits p T) where
   pushed-object os v ts (n ∷ l) h = h
 
   left-found : (os : List Obj) (w : Gives) (r : Option Ty) (v : Option Value) (cs : List Call) → FieldsFit T os → ResultFits T os r v
-      → BeneathFit p T os w r cs → Kept p T false (left os (given w v) cs)
-  left-found os w r v [] fields h b = record { fields = fields; calls = tt; started = tt; ending = refl }
-  left-found os Own None None (c ∷ cs) fields h b = record { fields = fields; calls = ((b.0, b.1), b.2); started = tt; ending = refl }
-  left-found os Own None (Some v) (c ∷ cs) fields h b = absurd h
-  left-found os Own (Some t) None (c ∷ cs) fields h b = absurd h
-  left-found os Own (Some t) (Some v) (c ∷ cs) fields h b = record {
+      → BeneathFit p T os w r cs → Each (IsThere p T os) cs → Kept p T false (left os (given w v) cs)
+  left-found os w r v [] fields h b q = record { fields = fields; calls = tt; there = tt; started = tt; ending = refl }
+  left-found os Own None None (c ∷ cs) fields h b q = record { fields = fields; calls = ((b.0, b.1), b.2); there = q; started = tt; ending = refl }
+  left-found os Own None (Some v) (c ∷ cs) fields h b q = absurd h
+  left-found os Own (Some t) None (c ∷ cs) fields h b q = absurd h
+  left-found os Own (Some t) (Some v) (c ∷ cs) fields h b q = record {
+    there = q;
     fields = fields;
     calls = ((going-known p T os c (true_on_top (v ∷ c.temps)) (v ∷ c.temps) b.0, pushed-value os t v c.temps (need_in p T c) b.1 (h, tt)), b.2);
     started = tt;
     ending = refl;
   }
-  left-found os (Object q) r v (c ∷ cs) fields h b = record {
+  left-found os (Object q) r v (c ∷ cs) fields h b there = record {
+    there = there;
     fields = fields;
     calls = ((going-known p T os c false (value.Ref q ∷ c.temps) b.0, pushed-object os (value.Ref q) c.temps (need_in p T c) b.1), b.2);
     started = tt;
@@ -291,7 +300,7 @@ module _ (p : Program) (T : Types) (program : ProgramFits p T) where
 
   next-found : (t : ℕ) (f : Frame) (k : Code) → Found f k → Kept p T (faults k f.call.temps) (next p t f k)
   next-found t f Done g =
-      left-found f.objects f.call.gives (result_in T f.call) None f.below g.fields (done-result f (result_in T f.call) (true_on_top f.call.temps) g.going.returns) g.below
+      left-found f.objects f.call.gives (result_in T f.call) None f.below g.fields (done-result f (result_in T f.call) (true_on_top f.call.temps) g.going.returns) g.below g.there.1
   next-found t f (Do n i k) g = do-found f n i k g
   next-found t f (If n a b k) g = if-found f n a b k f.call.temps refl g
   next-found t f (While n c b k) g = while-found f n c b k g
@@ -306,58 +315,71 @@ module _ (p : Program) (T : Types) (program : ProgramFits p T) where
   fields-exited os r h = fields-changed T os r exited (λ x. refl) (λ x e y. y) h
 
   leave-found : (f : Frame) (v : Option Value) (o : Option (ℕ × Code)) → FieldsFit T f.objects → ResultFits T f.objects (result_in T f.call) v
-      → BeneathFit p T f.objects f.call.gives (result_in T f.call) f.below → Kept p T false (leave f v o)
-  leave-found f v None fields h b = left-found f.objects f.call.gives (result_in T f.call) v f.below fields h b
-  leave-found f v (Some (r, k)) fields h b =
+      → BeneathFit p T f.objects f.call.gives (result_in T f.call) f.below → Each (IsThere p T f.objects) (f.call ∷ f.below)
+      → Kept p T false (leave f v o)
+  leave-found f v None fields h b there = left-found f.objects f.call.gives (result_in T f.call) v f.below fields h b there.1
+  leave-found f v (Some (r, k)) fields h b there =
       let w : Grows f.objects (changed f.objects r exited) = grows-changed f.objects r exited (λ x. refl) in
       record {
         fields = fields-exited f.objects r fields;
         calls = (
           result-grows T f.objects (changed f.objects r exited) (result_in T f.call) v w h,
+          refl,
           beneath-grows p T f.objects (changed f.objects r exited) f.call.gives (result_in T f.call) f.below w b,
         );
+        there = calls-there-grow p T f.objects (changed f.objects r exited) (f.call ∷ f.below) w there;
         started = tt;
         ending = refl;
       }
 
-  dropped-found : (os : List Obj) (cs : List Call) → FieldsFit T os → Kept p T (is_ending (dropped os cs).mode) (dropped os cs)
-  dropped-found os [] fields = record { fields = fields; calls = tt; started = tt; ending = refl }
-  dropped-found os (c ∷ cs) fields = record { fields = fields; calls = tt; started = tt; ending = refl }
+  dropped-found : (os : List Obj) (cs : List Call) → FieldsFit T os → Each (TempsThere T os) cs → Each (IsThere p T os) cs
+      → Kept p T (is_ending (dropped os cs).mode) (dropped os cs)
+  dropped-found os [] fields ts there = record { fields = fields; calls = tt; there = tt; started = tt; ending = refl }
+  dropped-found os (c ∷ cs) fields ts there = record { fields = fields; calls = (refl, ts.1); there = there; started = tt; ending = refl }
 
-  unwind-found : (f : Frame) (o : Option (ℕ × Code)) → FieldsFit T f.objects → Kept p T (is_ending (unwind f o).mode) (unwind f o)
-  unwind-found f None fields = dropped-found f.objects f.below fields
-  unwind-found f (Some (r, k)) fields = record { fields = fields-exited f.objects r fields; calls = tt; started = tt; ending = refl }
+  unwind-found : (f : Frame) (o : Option (ℕ × Code)) → FieldsFit T f.objects → Each (TempsThere T f.objects) f.below
+      → Each (IsThere p T f.objects) (f.call ∷ f.below) → Kept p T (is_ending (unwind f o).mode) (unwind f o)
+  unwind-found f None fields ts there = dropped-found f.objects f.below fields ts there.1
+  unwind-found f (Some (r, k)) fields ts there =
+      let w : Grows f.objects (changed f.objects r exited) = grows-changed f.objects r exited (λ x. refl) in
+      record {
+        fields = fields-exited f.objects r fields;
+        calls = (refl, temps-there-grow T f.objects (changed f.objects r exited) f.below w ts);
+        there = calls-there-grow p T f.objects (changed f.objects r exited) (f.call ∷ f.below) w there;
+        started = tt;
+        ending = refl;
+      }
 
-  pub running-found : (t : ℕ) (f : Frame) → FieldsFit T f.objects → Holders p f.objects → CallsFit p T f.objects mode.Running (f.call ∷ f.below)
-      → Kept p T (faults f.call.rest f.call.temps) (next p t f f.call.rest)
-  running-found t f fields holders h =
-      next-found t f f.call.rest (record { fields = fields; holders = holders; going = h.0.0; filled = h.0.1; below = h.1 })
+  pub running-found : (t : ℕ) (f : Frame) → FieldsFit T f.objects → Holders p f.objects → Each (IsThere p T f.objects) (f.call ∷ f.below)
+      → CallsFit p T f.objects mode.Running (f.call ∷ f.below) → Kept p T (faults f.call.rest f.call.temps) (next p t f f.call.rest)
+  running-found t f fields holders there h =
+      next-found t f f.call.rest (record { fields = fields; holders = holders; going = h.0.0; filled = h.0.1; below = h.1; there = there })
 
-  pub leaving-found : (f : Frame) (v : Option Value) → FieldsFit T f.objects → CallsFit p T f.objects (mode.Leaving v) (f.call ∷ f.below)
-      → Kept p T false (leave f v (next_exit f.call.rest))
-  leaving-found f v fields h = leave-found f v (next_exit f.call.rest) fields h.0 h.1
+  pub leaving-found : (f : Frame) (v : Option Value) → FieldsFit T f.objects → Each (IsThere p T f.objects) (f.call ∷ f.below)
+      → CallsFit p T f.objects (mode.Leaving v) (f.call ∷ f.below) → Kept p T false (leave f v (next_exit f.call.rest))
+  leaving-found f v fields there h = leave-found f v (next_exit f.call.rest) fields h.0 h.2 there
 
   any-ending : (x : Bool) (a : After) → Kept p T x a → Kept p T (is_ending a.mode) a
-  any-ending x a k = record { fields = k.fields; calls = k.calls; started = k.started; ending = refl }
+  any-ending x a k = record { fields = k.fields; calls = k.calls; there = k.there; started = k.started; ending = refl }
 
-  move-found : (t : ℕ) (f : Frame) (m : Mode) → FieldsFit T f.objects → Holders p f.objects → CallsFit p T f.objects m (f.call ∷ f.below)
-      → Kept p T (is_ending (move p t f m).mode) (move p t f m)
-  move-found t f mode.Running fields holders h =
-      any-ending (faults f.call.rest f.call.temps) (next p t f f.call.rest) (running-found t f fields holders h)
-  move-found t f (mode.Leaving v) fields holders h =
-      any-ending false (leave f v (next_exit f.call.rest)) (leaving-found f v fields h)
-  move-found t f mode.Ending fields holders h = unwind-found f (next_exit f.call.rest) fields
-  move-found t f mode.Over fields holders h = absurd h
+  move-found : (t : ℕ) (f : Frame) (m : Mode) → FieldsFit T f.objects → Holders p f.objects → Each (IsThere p T f.objects) (f.call ∷ f.below)
+      → CallsFit p T f.objects m (f.call ∷ f.below) → Kept p T (is_ending (move p t f m).mode) (move p t f m)
+  move-found t f mode.Running fields holders there h =
+      any-ending (faults f.call.rest f.call.temps) (next p t f f.call.rest) (running-found t f fields holders there h)
+  move-found t f (mode.Leaving v) fields holders there h =
+      any-ending false (leave f v (next_exit f.call.rest)) (leaving-found f v fields there h)
+  move-found t f mode.Ending fields holders there h = unwind-found f (next_exit f.call.rest) fields h.1 there
+  move-found t f mode.Over fields holders there h = absurd h
 
   over-found : (os : List Obj) (m : Mode) → FieldsFit T os → CallsFit p T os m []
       → Kept p T (is_ending m) (record { objects = os; calls = []; mode = m; started = None })
   over-found os mode.Running fields h = absurd h
   over-found os (mode.Leaving v) fields h = absurd h
   over-found os mode.Ending fields h = absurd h
-  over-found os mode.Over fields h = record { fields = fields; calls = tt; started = tt; ending = refl }
+  over-found os mode.Over fields h = record { fields = fields; calls = tt; there = tt; started = tt; ending = refl }
 
-  pub moved-kept : (t : ℕ) (os : List Obj) (h : Thread) (cs : List Call) → FieldsFit T os → Holders p os → CallsFit p T os h.mode cs
-      → Kept p T (is_ending (moved p t os h cs).mode) (moved p t os h cs)
-  moved-kept t os h [] fields holders calls = over-found os h.mode fields calls
-  moved-kept t os h (c ∷ cs) fields holders calls =
-      move-found t (record { objects = os; call = c; below = cs }) h.mode fields holders calls
+  pub moved-kept : (t : ℕ) (os : List Obj) (h : Thread) (cs : List Call) → FieldsFit T os → Holders p os → Each (IsThere p T os) cs
+      → CallsFit p T os h.mode cs → Kept p T (is_ending (moved p t os h cs).mode) (moved p t os h cs)
+  moved-kept t os h [] fields holders there calls = over-found os h.mode fields calls
+  moved-kept t os h (c ∷ cs) fields holders there calls =
+      move-found t (record { objects = os; call = c; below = cs }) h.mode fields holders there calls

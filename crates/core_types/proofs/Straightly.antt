@@ -29,12 +29,14 @@ use Rattle.core_types.specs.Uses.{pushed, popped, field_read, field_kept, field_
 use Rattle.core_types.specs.Need.{need_of, AllSuit, UseFits}
 use Rattle.core_types.specs.Paths.{reads, is_true, true_on_top}
 use Rattle.core_types.specs.Programs.{ProgramFits}
-use Rattle.core_types.specs.Configs.{FieldsFit, LocalFits, IsGoing, need_in, result_in, BeneathFit, CallsFit, ThreadFits}
+use Rattle.core_types.specs.Configs.{IsThere, FieldsFit, LocalFits, IsGoing, need_in, result_in, BeneathFit, CallsFit, ThreadFits}
 use Rattle.core_types.specs.Faults.{is_ending, null_under, zero_on_top, divides}
 use Rattle.core_types.proofs.Widening.{Grows, Found, push-one, all-grow}
 use Rattle.core_types.proofs.Heaps.{Holders, grows-changed, grows-append, holders-grow, fields-fresh, get-past}
 use Rattle.core_types.proofs.Goings.{going-same, going-known, going-grows, beneath-grows, returns-on}
 use Rattle.core_types.proofs.Codes.{ends-known}
+use Rattle.core_laws.specs.Places.{Each}
+use Rattle.core_types.proofs.Numbers.{belongs-any, there-set, calls-there-grow, beneath-there}
 use Rattle.core_types.proofs.Fields.{FieldAt, read-found, found-some, fields-written, own-at, static-at}
 use Rattle.core_laws.proofs.Owners.{get-other}
 
@@ -53,12 +55,13 @@ get-long (y ∷ xs) (suc i) x h = get-long xs i x (omega (arith, h))
 
 abbrev pub StartedFits : Program → Types → List Obj → Option Thread → Type 0
 StartedFits p T os None = Unit {0}
-StartedFits p T os (Some h) = ThreadFits p T os h
+StartedFits p T os (Some h) = ThreadFits p T os h × Each (IsThere p T os) h.calls
 
 -- what a step leaves of its thread; `x` says whether the thread is ending
 pub record Kept (p : Program) (T : Types) (x : Bool) (a : After) : Type 0 where
   pub fields : FieldsFit T a.objects
   pub calls : CallsFit p T a.objects a.mode a.calls
+  pub there : Each (IsThere p T a.objects) a.calls
   pub started : StartedFits p T a.objects a.started
   pub ending : is_ending a.mode ≡ x
 
@@ -68,10 +71,11 @@ pub record Good (p : Program) (T : Types) (f : Frame) : Type 0 where
   pub holders : Holders p f.objects
   pub going : IsGoing p T f.objects false f.call
   pub below : BeneathFit p T f.objects f.call.gives (result_in T f.call) f.below
+  pub there : Each (IsThere p T f.objects) (f.call ∷ f.below)
 
 module _ (p : Program) (T : Types) (program : ProgramFits p T) where
   pub temps : (f : Frame) (ts : List Value) → Good p T f → Good p T (with_temps f ts)
-  temps f ts g = record { fields = g.fields; holders = g.holders; going = going-same p T f.objects f.call false ts g.going; below = g.below }
+  temps f ts g = record { fields = g.fields; holders = g.holders; going = going-same p T f.objects f.call false ts g.going; below = g.below; there = g.there }
 
   pub objects : (f : Frame) (ns : List Obj) → Grows f.objects ns → FieldsFit T ns → Good p T f → Good p T (with_objects f ns)
   objects f ns w fields g = record {
@@ -79,18 +83,27 @@ module _ (p : Program) (T : Types) (program : ProgramFits p T) where
     holders = holders-grow p f.objects ns w g.holders;
     going = going-grows p T f.objects ns false f.call w g.going;
     below = beneath-grows p T f.objects ns f.call.gives (result_in T f.call) f.below w g.below;
+    there = calls-there-grow p T f.objects ns (f.call ∷ f.below) w g.there;
   }
 
   pub go : (f : Frame) (ts : List Value) → Good p T f → AllBelong T f.objects ts (need_in p T f.call) → Kept p T false (goes (with_temps f ts))
   go f ts g h = record {
     fields = g.fields;
     calls = ((going-known p T f.objects f.call (true_on_top ts) ts g.going, h), g.below);
+    there = g.there;
     started = tt;
     ending = refl;
   }
 
-  pub end : (f : Frame) → FieldsFit T f.objects → Kept p T true (ends f)
-  end f fields = record { fields = fields; calls = tt; started = tt; ending = refl }
+  pub end : (f : Frame) → FieldsFit T f.objects → BeneathFit p T f.objects f.call.gives (result_in T f.call) f.below
+      → Each (IsThere p T f.objects) (f.call ∷ f.below) → Kept p T true (ends f)
+  end f fields below there = record {
+    fields = fields;
+    calls = (refl, beneath-there p T f.objects f.call.gives (result_in T f.call) f.below below);
+    there = there;
+    started = tt;
+    ending = refl;
+  }
 
   pub push-kept : (f : Frame) (v : Value) (t : Ty) → Good p T f → AllSuit T (t ∷ []) (need_in p T f.call)
       → AllBelong T f.objects f.call.temps (drop 1 (need_in p T f.call)) → Belongs T f.objects v t → Kept p T false (push f v)
@@ -107,59 +120,33 @@ module _ (p : Program) (T : Types) (program : ProgramFits p T) where
 
   -- ---- locals and temporaries
 
+  const-with : (f : Frame) (v : Value) (t : Ty) → AllSuit T (t ∷ []) (need_in p T f.call)
+      → AllBelong T f.objects f.call.temps (drop 1 (need_in p T f.call)) → Belongs T f.objects v t → FieldsFit T f.objects
+      → IsGoing p T f.objects (is_true v) f.call → BeneathFit p T f.objects f.call.gives (result_in T f.call) f.below
+      → Each (IsThere p T f.objects) (f.call ∷ f.below) → Kept p T false (push f v)
+  const-with f v t s h b fields g below there = record {
+    fields = fields;
+    calls = (
+      (
+        going-same p T f.objects f.call (is_true v) (v ∷ f.call.temps) g,
+        push-one T f.objects v t f.call.temps (need_in p T f.call) s b h,
+      ),
+      below,
+    );
+    there = there;
+    started = tt;
+    ending = refl;
+  }
+
   pub const-kept : (f : Frame) (v : Value) → UseFits T (of_const v) (need_in p T f.call)
       → AllBelong T f.objects f.call.temps (need_of (of_const v) (need_in p T f.call)) → FieldsFit T f.objects
       → IsGoing p T f.objects (is_true v) f.call → BeneathFit p T f.objects f.call.gives (result_in T f.call) f.below
-      → Kept p T false (push f v)
-  const-kept f (value.Int x) s h fields g below = record {
-    fields = fields;
-    started = tt;
-    ending = refl;
-    calls = (
-      (
-        going-same p T f.objects f.call false (value.Int x ∷ f.call.temps) g,
-        push-one T f.objects (value.Int x) IntType f.call.temps (need_in p T f.call) s refl h,
-      ),
-      below,
-    );
-  }
-  const-kept f (value.Bool b) s h fields g below = record {
-    fields = fields;
-    started = tt;
-    ending = refl;
-    calls = (
-      (
-        going-same p T f.objects f.call b (value.Bool b ∷ f.call.temps) g,
-        push-one T f.objects (value.Bool b) BoolType f.call.temps (need_in p T f.call) s refl h,
-      ),
-      below,
-    );
-  }
-  const-kept f (value.Str x) s h fields g below = record {
-    fields = fields;
-    started = tt;
-    ending = refl;
-    calls = (
-      (
-        going-same p T f.objects f.call false (value.Str x ∷ f.call.temps) g,
-        push-one T f.objects (value.Str x) TextType f.call.temps (need_in p T f.call) s refl h,
-      ),
-      below,
-    );
-  }
-  const-kept f value.Null s h fields g below = record {
-    fields = fields;
-    started = tt;
-    ending = refl;
-    calls = (
-      (
-        going-same p T f.objects f.call false (value.Null ∷ f.call.temps) g,
-        push-one T f.objects value.Null NullType f.call.temps (need_in p T f.call) s refl h,
-      ),
-      below,
-    );
-  }
-  const-kept f (value.Ref r) s h fields g below = absurd s
+      → Each (IsThere p T f.objects) (f.call ∷ f.below) → Kept p T false (push f v)
+  const-kept f (value.Int x) s h fields g below there = const-with f (value.Int x) IntType s h refl fields g below there
+  const-kept f (value.Bool b) s h fields g below there = const-with f (value.Bool b) BoolType s h refl fields g below there
+  const-kept f (value.Str x) s h fields g below there = const-with f (value.Str x) TextType s h refl fields g below there
+  const-kept f value.Null s h fields g below there = const-with f value.Null NullType s h refl fields g below there
+  const-kept f (value.Ref r) s h fields g below there = absurd s
 
   local-kept : (f : Frame) (w : Option Value) (t : Ty) → Good p T f → AllSuit T (t ∷ []) (need_in p T f.call)
       → AllBelong T f.objects f.call.temps (drop 1 (need_in p T f.call)) → LocalFits T f.objects w (Some t) → Kept p T false (push_if f w)
@@ -200,7 +187,6 @@ module _ (p : Program) (T : Types) (program : ProgramFits p T) where
       → IsGoing p T f.objects known (record f.call { rest = Do n (plain.Set i) k })
       → IsGoing p T f.objects (true_on_top ts) (record f.call { rest = k; locals = slice_set f.call.locals i v; temps = ts })
   set-going f n i k v t ts known e b g = record {
-    there = g.there;
     fits = g.fits.1;
     long = length-set f.call.locals i v ∙ g.long;
     locals = λ j r. ⊎_elim
@@ -219,31 +205,37 @@ module _ (p : Program) (T : Types) (program : ProgramFits p T) where
 
   set-in : (f : Frame) (n : Note) (i : ℕ) (k : Code) (o : Option Ty) (ts : List Value) (known : Bool)
       → slice_get (locals_of (of_unit T f.call.unit)) i ≡ o → FieldsFit T f.objects
-      → BeneathFit p T f.objects f.call.gives (result_in T f.call) f.below
+      → BeneathFit p T f.objects f.call.gives (result_in T f.call) f.below → Each (IsThere p T f.objects) (f.call ∷ f.below)
       → IsGoing p T f.objects known (record f.call { rest = Do n (plain.Set i) k })
       → UseFits T (popped o) (need_in p T (record f.call { rest = k })) → AllBelong T f.objects ts (need_of (popped o) (need_in p T (record f.call { rest = k })))
       → Kept p T false (set_from (with_rest f k) i ts)
-  set-in f n i k None ts known e fields below g s h = absurd s
-  set-in f n i k (Some t) [] known e fields below g s h = absurd h
-  set-in f n i k (Some t) (v ∷ ts) known e fields below g s h =
+  set-in f n i k None ts known e fields below there g s h = absurd s
+  set-in f n i k (Some t) [] known e fields below there g s h = absurd h
+  set-in f n i k (Some t) (v ∷ ts) known e fields below there g s h =
       if-kept (nat_lt i (length f.call.locals)) (goes (with_local (with_temps (with_rest f k) ts) i v)) (ends (with_rest f k))
       (lt-get (locals_of (of_unit T f.call.unit)) f.call.locals i t e g.long)
-      (record { fields = fields; calls = ((set-going f n i k v t ts known e h.0 g, h.1), below); started = tt; ending = refl })
+      (record {
+        fields = fields;
+        calls = ((set-going f n i k v t ts known e h.0 g, h.1), below);
+        there = ((there.0.0, there-set T f.objects f.call.locals i v (belongs-any T f.objects v t h.0) there.0.1, there.0.2), there.1);
+        started = tt;
+        ending = refl;
+      })
 
   pub set-kept : (f : Frame) (n : Note) (i : ℕ) (k : Code) (ts : List Value) (known : Bool) → FieldsFit T f.objects
-      → BeneathFit p T f.objects f.call.gives (result_in T f.call) f.below
+      → BeneathFit p T f.objects f.call.gives (result_in T f.call) f.below → Each (IsThere p T f.objects) (f.call ∷ f.below)
       → IsGoing p T f.objects known (record f.call { rest = Do n (plain.Set i) k })
       → AllBelong T f.objects ts (need_in p T (record f.call { rest = Do n (plain.Set i) k }))
       → Kept p T false (set_from (with_rest f k) i ts)
-  set-kept f n i k ts known fields below g h =
-      set-in f n i k (slice_get (locals_of (of_unit T f.call.unit)) i) ts known refl fields below g g.fits.0 h
+  set-kept f n i k ts known fields below there g h =
+      set-in f n i k (slice_get (locals_of (of_unit T f.call.unit)) i) ts known refl fields below there g g.fits.0 h
 
   -- ---- operators
 
   push-unless : (f : Frame) (b : Bool) (v : Value) → Good p T f → AllSuit T (IntType ∷ []) (need_in p T f.call)
       → AllBelong T f.objects f.call.temps (drop 1 (need_in p T f.call)) → Belongs T f.objects v IntType
       → Kept p T b (push_if f (if b then None else Some v))
-  push-unless f true v g s h b = end f g.fields
+  push-unless f true v g s h b = end f g.fields g.below g.there
   push-unless f false v g s h b = push-kept f v IntType g s h b
 
   equal-found : (os : List Obj) (v w : Value) → Found T os (operated op.Equal v w) BoolType
@@ -352,7 +344,7 @@ module _ (p : Program) (T : Types) (program : ProgramFits p T) where
   field-kept f c i (Some t) (value.Int x ∷ ts) e g s h = absurd (let e = h.0 in let no : ⊥ = cc in no)
   field-kept f c i (Some t) (value.Bool b ∷ ts) e g s h = absurd (let e = h.0 in let no : ⊥ = cc in no)
   field-kept f c i (Some t) (value.Str x ∷ ts) e g s h = absurd (let e = h.0 in let no : ⊥ = cc in no)
-  field-kept f c i (Some t) (value.Null ∷ ts) e g s h = end f g.fields
+  field-kept f c i (Some t) (value.Null ∷ ts) e g s h = end f g.fields g.below g.there
   field-kept f c i (Some t) (value.Ref r ∷ ts) e g s h =
       read-kept (with_temps f ts) r i t (own-at p T program f.objects r c i t h.0 e) (temps f ts g) s h.1
 
@@ -364,7 +356,7 @@ module _ (p : Program) (T : Types) (program : ProgramFits p T) where
   keep-kept f c i (Some t) (value.Int x ∷ ts) e g s h = absurd (let e = h.0 in let no : ⊥ = cc in no)
   keep-kept f c i (Some t) (value.Bool b ∷ ts) e g s h = absurd (let e = h.0 in let no : ⊥ = cc in no)
   keep-kept f c i (Some t) (value.Str x ∷ ts) e g s h = absurd (let e = h.0 in let no : ⊥ = cc in no)
-  keep-kept f c i (Some t) (value.Null ∷ ts) e g s h = end f g.fields
+  keep-kept f c i (Some t) (value.Null ∷ ts) e g s h = end f g.fields g.below g.there
   keep-kept f c i (Some t) (value.Ref r ∷ ts) e g s h =
       read-kept (with_temps f (value.Ref r ∷ ts)) r i t (own-at p T program f.objects r c i t h.0 e) (temps f (value.Ref r ∷ ts) g)
       (first T t (ClassType c) (need_in p T f.call) s) (under T t f.objects (value.Ref r) (ClassType c) ts (need_in p T f.call) s h.0 h.1)
@@ -387,7 +379,7 @@ module _ (p : Program) (T : Types) (program : ProgramFits p T) where
   put-kept f c i (Some t) (v ∷ value.Int x ∷ ts) e g s h = absurd (let e = h.1.0 in let no : ⊥ = cc in no)
   put-kept f c i (Some t) (v ∷ value.Bool b ∷ ts) e g s h = absurd (let e = h.1.0 in let no : ⊥ = cc in no)
   put-kept f c i (Some t) (v ∷ value.Str x ∷ ts) e g s h = absurd (let e = h.1.0 in let no : ⊥ = cc in no)
-  put-kept f c i (Some t) (v ∷ value.Null ∷ ts) e g s h = end f g.fields
+  put-kept f c i (Some t) (v ∷ value.Null ∷ ts) e g s h = end f g.fields g.below g.there
   put-kept f c i (Some t) (v ∷ value.Ref r ∷ ts) e g s h =
       write-kept (with_temps f ts) r i v t (own-at p T program f.objects r c i t h.1.0 e) h.0 (temps f ts g) h.1.1
 

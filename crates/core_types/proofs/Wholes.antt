@@ -26,39 +26,55 @@ use Rattle.core_laws.proofs.Shaping.{kind-step, fields-kept, shaped-run}
 use Rattle.core_types.specs.Types.{Types, of_unit, has, args_of}
 use Rattle.core_types.specs.Belonging.{AllBelong}
 use Rattle.core_types.specs.Programs.{MainFits, ProgramFits}
-use Rattle.core_types.specs.Configs.{FieldsFit, ThreadFits, ConfigFits}
+use Rattle.core_types.specs.Configs.{IsThere, KindsThere, FieldsFit, ThreadFits, ConfigFits}
 use Rattle.core_types.proofs.Widening.{Grows, all-grow}
 use Rattle.core_types.proofs.Heaps.{ObjFits, some-is, grows-none, append-each, fresh-fit, fresh-at, get-past, FreshFrom, initials-belong}
 use Rattle.core_types.proofs.Goings.{threads-grow}
 use Rattle.core_types.proofs.Fields.{class-is}
 use Rattle.core_types.proofs.Straightly.{StartedFits}
-use Rattle.core_types.proofs.Calls.{this-none, begun-fits}
+use Rattle.core_types.proofs.Calls.{this-none, begun-fits, begun-there}
+use Rattle.core_types.proofs.Numbers.{calls-there-grow, kinds-append, kinds-cons, kinds-none, kinds-fresh, kinds-kept, member-at}
 use Rattle.core_types.proofs.Steps.{moved-kept}
 
 module _ (p : Program) (T : Types) where
   abbrev Fit : List Obj → Thread → Type 0
   Fit os h = ThreadFits p T os h
 
+  abbrev There : List Obj → Thread → Type 0
+  There os h = Each (IsThere p T os) h.calls
+
   -- what a step keeps of the fields and the threads
   record Stepped (c : Config) : Type 0 where
     fields : FieldsFit T c.objects
     threads : Each (Fit c.objects) c.threads
+    there : Each (There c.objects) c.threads
 
   started-each : (os : List Obj) (o : Option Thread) → StartedFits p T os o → Each (Fit os) (option_to_list o)
   started-each os None h = tt
-  started-each os (Some t) h = (h, tt)
+  started-each os (Some t) h = (h.0, tt)
+
+  started-there : (os : List Obj) (o : Option Thread) → StartedFits p T os o → Each (There os) (option_to_list o)
+  started-there os None h = tt
+  started-there os (Some t) h = (h.1, tt)
+
+  threads-there-grow : (os ns : List Obj) (ts : List Thread) → Grows os ns → Each (There os) ts → Each (There ns) ts
+  threads-there-grow os ns [] g h = tt
+  threads-there-grow os ns (t ∷ ts) g h = (calls-there-grow p T os ns t.calls g h.0, threads-there-grow os ns ts g h.1)
 
   stepped-of : (c : Config) (t : ℕ) (o : Option Thread) → slice_get c.threads t ≡ o → ConfigFits p T c → Grows c.objects (step_of p c t o).objects
       → Stepped (step_of p c t o)
-  stepped-of c t None e w g = record { fields = w.fields; threads = w.threads }
+  stepped-of c t None e w g = record { fields = w.fields; threads = w.threads; there = w.there }
   stepped-of c t (Some now) e w g =
       let a : After = moved p t c.objects now now.calls in
-      let k = moved-kept p T w.program t c.objects now now.calls w.fields w.shaped.holders (each-get (Fit c.objects) c.threads t now e w.threads) in
+      let k = moved-kept p T w.program t c.objects now now.calls w.fields w.shaped.holders (each-get (There c.objects) c.threads t now e w.there) (each-get (Fit c.objects) c.threads t now e w.threads) in
       record {
         fields = k.fields;
         threads = each-append (Fit a.objects) (slice_set c.threads t (record { calls = a.calls; mode = a.mode })) (option_to_list a.started)
             (each-set (Fit a.objects) c.threads t (record { calls = a.calls; mode = a.mode }) k.calls (threads-grow p T c.objects a.objects c.threads g w.threads))
             (started-each a.objects a.started k.started);
+        there = each-append (There a.objects) (slice_set c.threads t (record { calls = a.calls; mode = a.mode })) (option_to_list a.started)
+            (each-set (There a.objects) c.threads t (record { calls = a.calls; mode = a.mode }) k.there (threads-there-grow c.objects a.objects c.threads g w.there))
+            (started-there a.objects a.started k.started);
       }
 
   pub step-fits : (c : Config) (t : ℕ) → ConfigFits p T c → ConfigFits p T (step p c t)
@@ -70,7 +86,9 @@ module _ (p : Program) (T : Types) where
           holders = λ k info e. kind-step p c t k (kind.Holder k) (w.shaped.holders k info e);
           fields = there-step p (HasItsFields p) (fields-kept p) c t w.shaped.fields;
         };
+        kinds = there-step p (KindsThere p) (kinds-kept p) c t w.kinds;
         fields = s.fields;
+        there = s.there;
         threads = s.threads;
         spined = kept-step_of (λ _. Spined) (λ _. spined-closed) p (spined-units p w.program.unmarked) c t (slice_get c.threads t) refl w.spined;
         counted = counted-step_of p w.program.unmarked c t (slice_get c.threads t) refl w.spined w.counted;
@@ -116,11 +134,33 @@ module _ (p : Program) (T : Types) where
       → Fit os (main_thread (call_of p o (value.Null ∷ []) Own))
   main-found os program c None e h = absurd h
   main-found os program c (Some u) e h =
-      let code = class-is (slice_get p.units u) (program.members c 1 1 u e).there in
+      let code = class-is (slice_get p.units u) (member-at p T program c 1 1 u e).there in
       let none = this-none (of_unit T u).this h.0 in
       let args : AllBelong T os (value.Null ∷ []) (args_of (of_unit T u)) = rw none (all-grow T [] os (value.Null ∷ []) (of_unit T u).params (grows-none os) h.1) in
       subst (λ w. Fit os (main_thread (call_for u w (value.Null ∷ []) Own))) (sym code.1)
       (begun-fits p T program os u code.0 (value.Null ∷ []) Own code.1 args, tt)
+
+  main-there : (os : List Obj) (program : ProgramFits p T) (c : ℕ) (o : Option ℕ) → unit_number p c 1 1 ≡ o → MainFits T o
+      → There os (main_thread (call_of p o (value.Null ∷ []) Own))
+  main-there os program c None e h = absurd h
+  main-there os program c (Some u) e h =
+      let code = class-is (slice_get p.units u) (member-at p T program c 1 1 u e).there in
+      let none = this-none (of_unit T u).this h.0 in
+      let args : AllBelong T os (value.Null ∷ []) (args_of (of_unit T u)) = rw none (all-grow T [] os (value.Null ∷ []) (of_unit T u).params (grows-none os) h.1) in
+      subst (λ w. There os (main_thread (call_for u w (value.Null ∷ []) Own))) (sym code.1)
+      (begun-there p T program os u code.0 (value.Null ∷ []) Own code.1 args tt, tt)
+
+  mains-there : (os : List Obj) → ProgramFits p T → (mains : List ℕ) → Each (λ c. has p.mains c ≡ true) mains
+      → Each (There os) (map (begun_thread p) mains)
+  mains-there os program [] h = tt
+  mains-there os program (c ∷ mains) h =
+      (main-there os program c (unit_number p c 1 1) refl (program.mains c h.0), mains-there os program mains h.1)
+
+  holders-kinds : (c n : ℕ) (cs : List ClassInfo) → From c cs → KindsThere p (holders_from c n cs)
+  holders-kinds c n [] h = kinds-none p
+  holders-kinds c n (x ∷ cs) h =
+      let here : slice_get p.classes c ≡ Some x = let z : c + 0 ≡ c = omega arith in ap (slice_get p.classes) (sym z) ∙ h 0 x refl in
+      kinds-cons p _ (holders_from (c + 1) (n + static_fresh x) cs) (rw here refl) (holders-kinds (c + 1) (n + static_fresh x) cs (from-next c x cs h))
 
   mains-found : (os : List Obj) → ProgramFits p T → (mains : List ℕ) → Each (λ c. has p.mains c ≡ true) mains
       → Each (Fit os) (map (begun_thread p) mains)
@@ -132,7 +172,11 @@ module _ (p : Program) (T : Types) where
   begin-fits program mains h = record {
     program = program;
     shaped = shaped-run p mains [];
+    kinds = kinds-append p (holders_from 0 (length p.classes) p.classes) (replicate (all_fresh p.classes) fresh_object)
+        (holders-kinds 0 (length p.classes) p.classes (λ k info e. let z : 0 + k ≡ k = omega arith in ap (slice_get p.classes) z ∙ e))
+        (kinds-fresh p (all_fresh p.classes));
     fields = begun-fields program;
+    there = mains-there (begun_objects p.classes) program mains h;
     threads = mains-found (begun_objects p.classes) program mains h;
     spined = begin-each (λ _. Spined) (λ _. spined-closed) p (spined-units p program.unmarked) mains;
     counted = counted-begin p program.unmarked mains;

@@ -15,8 +15,8 @@ use Rattle.core_model.specs.declared.value.Value.{Value}
 use Rattle.core_model.specs.declared.value.Value.TheVariants as value
 use Rattle.core_laws.specs.Places.{Each, EveryCall}
 use Rattle.core_laws.specs.Marks.{Spined, Counted}
-use Rattle.core_laws.specs.Shape.{Shaped}
-use Rattle.core_types.specs.Types.{Ty, Types, of_class, of_unit, locals_of}
+use Rattle.core_laws.specs.Shape.{kind_of, Shaped}
+use Rattle.core_types.specs.Types.{Ty, AnyType, Types, of_class, of_unit, locals_of}
 use Rattle.core_types.specs.Belonging.{Belongs, AllBelong, Suits}
 use Rattle.core_types.specs.Need.{need, Fits}
 use Rattle.core_types.specs.Paths.{reads, true_on_top}
@@ -37,9 +37,29 @@ LocalFits T os None t = ⊥
 LocalFits T os (Some v) None = ⊥
 LocalFits T os (Some v) (Some t) = Belongs T os v t
 
+-- each value is there: a reference names an object, and no holder
+abbrev pub AllThere : Types → List Obj → List Value → Type 0
+AllThere T os vs = Each (λ (v : Value). Belongs T os v AnyType) vs
+
+abbrev pub GivesThere : Types → List Obj → Gives → Type 0
+GivesThere T os Own = Unit {0}
+GivesThere T os (Object r) = Belongs T os (value.Ref r) AnyType
+
+-- the numbers of a call are in range
+abbrev pub IsThere : Program → Types → List Obj → Call → Type 0
+IsThere p T os c = (is_some (slice_get p.units c.unit) ≡ true) × AllThere T os c.locals × GivesThere T os c.gives
+
+-- an object is the holder of a class of the program, made of one, or a fresh Object
+abbrev pub KindThere : Program → ObjKind → Type 0
+KindThere p (kind.Holder c) = is_some (slice_get p.classes c) ≡ true
+KindThere p (kind.Made c) = is_some (slice_get p.classes c) ≡ true
+KindThere p kind.Plain = Unit {0}
+
+abbrev pub KindsThere : Program → List Obj → Type 0
+KindsThere p os = (r : ℕ) (k : ObjKind) → kind_of (slice_get os r) ≡ Some k → KindThere p k
+
 -- a call that can go on, its temporaries left aside
 pub record IsGoing (p : Program) (T : Types) (os : List Obj) (known : Bool) (c : Call) : Type 0 where
-  pub there : is_some (slice_get p.units c.unit) ≡ true
   pub fits : Fits p T (of_unit T c.unit) c.rest []
   pub long : length c.locals ≡ length (locals_of (of_unit T c.unit))
   pub locals : (i : ℕ) → reads i c.rest false ≡ true
@@ -99,9 +119,10 @@ abbrev pub CallsFit : Program → Types → List Obj → Mode → List Call → 
 CallsFit p T os mode.Running [] = ⊥
 CallsFit p T os mode.Running (c ∷ cs) = TopFits p T os c × BeneathFit p T os c.gives (result_in T c) cs
 CallsFit p T os (mode.Leaving v) [] = ⊥
-CallsFit p T os (mode.Leaving v) (c ∷ cs) = ResultFits T os (result_in T c) v × BeneathFit p T os c.gives (result_in T c) cs
+CallsFit p T os (mode.Leaving v) (c ∷ cs) =
+    ResultFits T os (result_in T c) v × (c.temps ≡ []) × BeneathFit p T os c.gives (result_in T c) cs
 CallsFit p T os mode.Ending [] = ⊥
-CallsFit p T os mode.Ending (c ∷ cs) = Unit {0}
+CallsFit p T os mode.Ending (c ∷ cs) = (c.temps ≡ []) × Each (λ (d : Call). AllThere T os d.temps) cs
 CallsFit p T os mode.Over [] = Unit {0}
 CallsFit p T os mode.Over (c ∷ cs) = ⊥
 
@@ -112,7 +133,9 @@ ThreadFits p T os thread = CallsFit p T os thread.mode thread.calls
 pub record ConfigFits (p : Program) (T : Types) (c : Config) : Type 0 where
   pub program : ProgramFits p T
   pub shaped : Shaped p c
+  pub kinds : KindsThere p c.objects
   pub fields : FieldsFit T c.objects
+  pub there : EveryCall (λ (call : Call). IsThere p T c.objects call) c.threads
   pub threads : Each (λ (thread : Thread). ThreadFits p T c.objects thread) c.threads
   pub spined : EveryCall (λ (call : Call). Spined call.rest) c.threads
   pub counted : Counted c

@@ -6,3 +6,4 @@ pub mod Paths
 pub mod Programs
 pub mod Configs
 pub mod Faults
+pub mod Sample

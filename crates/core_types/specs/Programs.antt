@@ -6,10 +6,12 @@ use Rattle.core_model.specs.Units.{unit_number}
 use Rattle.core_model.specs.declared.program.TheConstants.{MAIN, RUN}
 use Rattle.core_model.specs.declared.program.Program.{Program}
 use Rattle.core_model.specs.declared.program.ClassInfo.{ClassInfo}
+use Rattle.core_model.specs.declared.program.UnitName.{UnitName}
 use Rattle.core_model.specs.declared.program.UnitCode.{UnitCode}
 use Rattle.core_model.specs.declared.program.Initial.{Initial}
 use Rattle.core_model.specs.declared.program.Initial.TheVariants.{Held, FreshObject}
 use Rattle.core_model.specs.declared.value.Value.TheVariants as value
+use Rattle.core_laws.specs.Places.{Each}
 use Rattle.core_laws.specs.Marks.{HasNoMarks}
 use Rattle.core_types.specs.Types.{Ty, ObjectType, ClassType, Types, of_class, of_unit, args_of, locals_of, is_instance, is_runnable, has}
 use Rattle.core_types.specs.Belonging.{Belongs, AllBelong, Suits}
@@ -31,11 +33,13 @@ abbrev pub ThisFits : ℕ → List Ty → Type 0
 ThisFits c [] = Unit {0}
 ThisFits c (t ∷ ts) = (t ≡ ClassType c) × (ts ≡ [])
 
--- the unit of a member of class c with n parameters is there, has so many, and its `this`, if it has one, is of that class
-pub record MemberFits (p : Program) (T : Types) (c n u : ℕ) : Type 0 where
-  pub there : is_some (slice_get p.units u) ≡ true
-  pub count : length (of_unit T u).params ≡ n
-  pub this : ThisFits c (of_unit T u).this
+-- a member of class c: its name and its unit are there, it has as many parameters as its unit, and its `this`, if it has
+-- one, is of that class
+pub record MemberFits (p : Program) (T : Types) (c : ℕ) (m : UnitName) : Type 0 where
+  pub named : is_some (slice_get p.members m.name) ≡ true
+  pub there : is_some (slice_get p.units m.unit) ≡ true
+  pub count : length (of_unit T m.unit).params ≡ m.params
+  pub this : ThisFits c (of_unit T m.unit).this
 
 -- a unit of the same parameters and result, with a `this` as the other
 abbrev pub IsAlike : Types → ℕ → Option ℕ → Type 0
@@ -63,6 +67,7 @@ Returns None known k = Unit {0}
 Returns (Some t) known k = ends known k true ≡ false
 
 pub record UnitFits (p : Program) (T : Types) (u : ℕ) (code : UnitCode) : Type 0 where
+  pub class : is_some (slice_get p.classes code.class) ≡ true
   pub long : length (locals_of (of_unit T u)) ≡ code.locals
   pub this : is_instance (of_unit T u) ≡ not code.is_static
   pub fits : Fits p T (of_unit T u) code.code []
@@ -77,7 +82,7 @@ pub record ProgramFits (p : Program) (T : Types) : Type 0 where
   pub statics : (c : ℕ) (info : ClassInfo) → slice_get p.classes c ≡ Some info
       → InitialsFit T (static_initials info.fields) (of_class T c).statics
   pub own : (c : ℕ) (info : ClassInfo) → slice_get p.classes c ≡ Some info → InitialsFit T (own_initials info.fields) (of_class T c).own
-  pub members : (c m n u : ℕ) → unit_number p c m n ≡ Some u → MemberFits p T c n u
+  pub members : (c : ℕ) (info : ClassInfo) → slice_get p.classes c ≡ Some info → Each (MemberFits p T c) info.units
   pub implements : (c d : ℕ) → has (of_class T c).implements d ≡ true → Implements p T c d
   pub runs : (c : ℕ) → is_runnable T c ≡ true → RunFits T (unit_number p c RUN 0)
   pub units : (u : ℕ) (code : UnitCode) → slice_get p.units u ≡ Some code → UnitFits p T u code

@@ -4,8 +4,14 @@
 
 mod ending;
 mod growing;
+mod refusing;
+mod sample;
+#[cfg(test)]
+mod tests;
 mod typing;
 
 pub use ending::threads_end_by_faults;
 pub use growing::code_is_typed_by_parts;
+pub use refusing::ill_typed_code_is_refused;
+pub use sample::a_counter_is_well_typed;
 pub use typing::types_are_kept;
