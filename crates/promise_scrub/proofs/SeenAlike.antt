@@ -415,7 +415,7 @@ same_surface a b face alike s = record {
   locks = s.locks;
   codes = s.codes;
   scrubbed =
-    subst (λ (fs : List FieldFace). HeaderScrubbed (header_site b.kind) fs s.header s.regions s.locks s.codes) (all_fields a.members b.members alike.members)
-    (subst (λ (k : TypeKind). HeaderScrubbed (header_site k) (field_faces a) s.header s.regions s.locks s.codes) alike.kind s.scrubbed);
+      subst (λ (fs : List FieldFace). HeaderScrubbed (header_site b.kind) fs s.header s.regions s.locks s.codes) (all_fields a.members b.members alike.members)
+      (subst (λ (k : TypeKind). HeaderScrubbed (header_site k) (field_faces a) s.header s.regions s.locks s.codes) alike.kind s.scrubbed);
   is = s.is ∙ face_alike a b s.header s.members s.regions (region_kind s.regions) (lock_kind s.locks) s.codes alike;
 }

@@ -123,9 +123,9 @@ fault_same ds a b at bt f g p q = go (first_fault ds a at f p) (first_fault ds b
           | inr more ↦ elim more as (λ _. a ≡ b) [
             | inl gt ↦ absurd (is_bad ds j e b bt fj q (good_i j e gt get_e))
             | inr same ↦
-              let there : slice_get ds i ≡ Some e = subst (λ (x : ℕ). slice_get ds x ≡ Some e) (sym same) get_e in
-              let one : e ≡ d = cc in
-              one_fault ds i d a b at bt fi (subst (λ (x : RegionDecl). DeclFault ds i x b) one (subst (λ (x : ℕ). DeclFault ds x e b) (sym same) fj)) p q
+                let there : slice_get ds i ≡ Some e = subst (λ (x : ℕ). slice_get ds x ≡ Some e) (sym same) get_e in
+                let one : e ≡ d = cc in
+                one_fault ds i d a b at bt fi (subst (λ (x : RegionDecl). DeclFault ds i x b) one (subst (λ (x : ℕ). DeclFault ds x e b) (sym same) fj)) p q
           ]
         ]
 
