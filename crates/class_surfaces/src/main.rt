@@ -4,26 +4,21 @@
 #![tactic(auto)]
 
 mod content;
-mod reading;
 mod write;
 
 use anyhow::Result;
+use java_reader::read_file;
 use promise_scrub::surface_of;
-use reading::Reading;
 use std::io::{self, Read, Write};
 use write::put_surface;
 
 fn main(rt: HostRuntime) -> Result<()> {
     let mut text = Vec::new(rt.alloc());
     rt.reader().read_to_end(&mut text)?;
-    let mut reading = Reading::new(rt.alloc(), text.as_slice())?;
+    let file = read_file(rt.alloc(), text.as_slice())?;
     let mut out = String::new(rt.alloc());
-    for _ in 0..text.len() {
-        let Some(class) = reading.next_class(rt.alloc())? else {
-            break;
-        };
-        let surface = surface_of(rt.alloc(), &class)?;
-        put_surface(&mut out, &surface)?;
+    for class in file.types.as_slice() {
+        put_surface(&mut out, &surface_of(rt.alloc(), class)?)?;
     }
     io::writer(&rt).write_all(out.as_bytes())?;
     Ok(())
