@@ -1,9 +1,9 @@
 -- The names of a class of the form are of ASCII.
-use Rattle.std.proofs.Common.{◌≡◌, ℕ, ◌<◌, List, [], ◌∷◌, ◌++◌, Option, Some, None, length, get_or, All, Contains, sym, subst, arith, zero, suc}
+use Rattle.std.proofs.Common.{ℕ, List, [], ◌∷◌, ◌++◌, Option, Some, None, All, Contains, sym, subst, arith}
 use Rattle.std.specs.List.{filter_map, flat_map, AllByRecursion}
 use Rattle.std.specs.Str.{IsAscii}
 use Rattle.std.proofs.lemmas.List.Concat.{flat_map-cons}
-use Rattle.std.proofs.lemmas.List.Elements.{All-tail, All-cons, All-contains, All-append}
+use Rattle.std.proofs.lemmas.List.Elements.{All-tail, All-cons, All-contains}
 use Rattle.std.proofs.lemmas.Grind.{flat_map-append}
 use Rattle.java_tree.specs.declared.expr.Expr.{Expr, out-Expr}
 use Rattle.java_tree.specs.declared.expr.Expr.TheOpen.{Expr-F}
@@ -14,13 +14,12 @@ use Rattle.java_tree.specs.declared.stmt.BlockItem.{BlockItem, out-BlockItem}
 use Rattle.java_tree.specs.declared.stmt.BlockItem.TheOpen.{BlockItem-F, Stmt-F}
 use Rattle.java_tree.specs.declared.stmt.Block.{Block, out-Block}
 use Rattle.java_tree.specs.declared.member.Ty.{Ty}
-use Rattle.java_tree.specs.declared.member.Method.{Method}
 use Rattle.java_tree.specs.declared.member.MemberTree.{MemberTree}
 use Rattle.java_tree.specs.declared.member.MemberTree.TheVariants as tree
 use Rattle.java_tree.specs.declared.file.ClassTree.{ClassTree}
 use Rattle.java_tree.specs.declared.file.FileTree.{FileTree}
-use Rattle.java_tree.specs.Names.{names_of_expr, names_of_action, names_of_stmt, names_of_item, names_of_method, names_of_member, AsciiNames}
-use Rattle.first_form.specs.FirstForm.{IsTargetAt, IsValueAt, IsAction, IsAssignStmt, IsReturnStmt, IsAssignAt, IsReturnAt, IsAssign, IsReturn, IsBody, IsMethod, IsMember, IsFirstClass, IsFirstForm, IsOneClass, field_names, field_name}
+use Rattle.java_tree.specs.Names.{names_of_expr, names_of_action, names_of_stmt, names_of_item, names_of_member, AsciiNames}
+use Rattle.first_form.specs.FirstForm.{IsTargetAt, IsValueAt, IsAction, IsAssignStmt, IsReturnStmt, IsAssignAt, IsReturnAt, IsAssign, IsBody, IsMember, IsFirstClass, IsFirstForm, IsOneClass, field_names, field_name}
 use Rattle.first_form.proofs.FormLemmas.{members_along}
 
 abbrev Ascii : List (List ℕ) → Type 0

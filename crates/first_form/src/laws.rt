@@ -9,5 +9,4 @@ ghost use Rattle.first_form.specs.FirstForm.{IsFirstForm};
 /// of. The call does nothing; its contract is the law.
 pub fn ascii_names()
     ensures { (file : FileTree) → IsFirstForm file → All AsciiNames file.types }
-{
-}
+{}

@@ -37,10 +37,7 @@ fn are_held(mods: &[Mod]) -> bool
 fn is_field(field: &Field) -> bool
     ensures { IsTrue result ↔ spec.IsField field.now }
 {
-    field.mods.is_empty()
-        && is_int_type(&field.ty)
-        && is_name(&field.name)
-        && field.init.is_none()
+    field.mods.is_empty() && is_int_type(&field.ty) && is_name(&field.name) && field.init.is_none()
 }
 
 fn is_method<'a>(fields: &Names<'a>, method: &'a Method) -> bool

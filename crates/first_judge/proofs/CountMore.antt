@@ -1,9 +1,9 @@
 -- The findings of classes are as many as their accesses.
-use Rattle.std.proofs.Common.{◌≡◌, ℕ, ◌+◌, ◌<◌, Bool, true, false, cond, List, [], ◌∷◌, ◌++◌, Option, Some, None, length, map, take, get_or, refl, ap, sym, ◌∙◌, arith, length-append}
-use Rattle.std.specs.List.{flat_map, filter_map, sum_by}
+use Rattle.std.proofs.Common.{◌≡◌, ℕ, ◌+◌, ◌<◌, Bool, true, false, cond, List, [], ◌∷◌, ◌++◌, Option, Some, None, length, take, get_or, refl, ap, ◌∙◌, arith, length-append}
+use Rattle.std.specs.List.{sum_by}
 use Rattle.std.proofs.lemmas.List.Concat.{flat_map-cons, length-flat_map}
 use Rattle.std.proofs.lemmas.List.Sums.{sum_by-cons, sum_by_push}
-use Rattle.java_tree.specs.declared.expr.Expr.{Expr, out-Expr}
+use Rattle.java_tree.specs.declared.expr.Expr.{out-Expr}
 use Rattle.java_tree.specs.declared.token.Word.{Word}
 use Rattle.java_tree.specs.declared.stmt.AssignOp.{AssignOp}
 use Rattle.java_tree.specs.declared.stmt.AssignOp.TheVariants as op
@@ -16,8 +16,6 @@ use Rattle.java_tree.specs.declared.stmt.BlockItem.TheOpen.{Stmt-F, BlockItem-F}
 use Rattle.java_tree.specs.declared.member.Method.{Method}
 use Rattle.java_tree.specs.declared.member.MemberTree.{MemberTree}
 use Rattle.java_tree.specs.declared.member.MemberTree.TheVariants as tree
-use Rattle.java_tree.specs.declared.file.ClassTree.{ClassTree}
-use Rattle.report.specs.declared.answers.FindingRow.{FindingRow}
 use Rattle.first_judge.specs.Accesses.{Access, name_of, value_reads, target_uses, action_uses, stmt_uses, item_uses, items_uses, method_uses, head_tokens, is_synchronized}
 use Rattle.first_judge.specs.Findings.{has_lock, rows_with, unit_key, unit_of, units_with, rows_of}
 use Rattle.first_judge.specs.Project.{ClassText}
@@ -42,9 +40,13 @@ action_place : (a b : ℕ) (does : Action) → length (action_uses a does) ≡ l
 action_place a b (action.Assign target sign at value) =
     let first = target_place sign (a + 1) (b + 1) (name_of (out-Expr target)) in
     let second = value_place (a + 3) (b + 3) (name_of (out-Expr value)) in
-    omega (arith, first, second,
-    length-append (target_uses sign (a + 1) (name_of (out-Expr target))) (value_reads (a + 3) (name_of (out-Expr value))),
-    length-append (target_uses sign (b + 1) (name_of (out-Expr target))) (value_reads (b + 3) (name_of (out-Expr value))))
+    omega (
+      arith,
+      first,
+      second,
+      length-append (target_uses sign (a + 1) (name_of (out-Expr target))) (value_reads (a + 3) (name_of (out-Expr value))),
+      length-append (target_uses sign (b + 1) (name_of (out-Expr target))) (value_reads (b + 3) (name_of (out-Expr value))),
+    )
 action_place a b _ = refl
 
 stmt_place : (a b : ℕ) (does : Stmt-F BlockItem Stmt Block) → length (stmt_uses a does) ≡ length (stmt_uses b does)

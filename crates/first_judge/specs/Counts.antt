@@ -1,7 +1,7 @@
 -- How many findings classes have.
 use Rattle.std.specs.Prelude.{ℕ, List, [], length, if◌then◌else◌}
 use Rattle.std.specs.List.{flat_map, sum_by}
-use Rattle.java_tree.specs.declared.stmt.Block.{Block, out-Block}
+use Rattle.java_tree.specs.declared.stmt.Block.{out-Block}
 use Rattle.java_tree.specs.declared.stmt.BlockItem.{BlockItem, out-BlockItem}
 use Rattle.java_tree.specs.declared.member.MemberTree.{MemberTree}
 use Rattle.java_tree.specs.declared.member.MemberTree.TheVariants as member

@@ -1,10 +1,8 @@
 -- The names of files of the form are of ASCII.
-use Rattle.std.proofs.Common.{◌≡◌, ℕ, ◌<◌, List, [], ◌∷◌, ◌++◌, map, All, sym, subst, arith}
-use Rattle.std.specs.List.{flat_map}
+use Rattle.std.proofs.Common.{◌≡◌, List, [], ◌∷◌, map, All, sym, subst, arith}
 use Rattle.std.proofs.lemmas.List.Concat.{flat_map-cons}
 use Rattle.std.proofs.lemmas.List.Elements.{All-append, All-map, All-tail}
 use Rattle.java_tree.specs.declared.file.FileTree.{FileTree}
-use Rattle.java_tree.specs.declared.file.ClassTree.{ClassTree}
 use Rattle.java_tree.specs.Names.{AsciiNames}
 use Rattle.first_form.specs.FirstForm.{IsFirstForm}
 use Rattle.first_judge.specs.Project.{ClassText}

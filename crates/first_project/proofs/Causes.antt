@@ -1,5 +1,5 @@
 -- What stands for files that were read stands for the project.
-use Rattle.std.proofs.Common.{◌≡◌, List, [], ◌∷◌, Some, None, map, inl, inr, refl, ap, sym, ◌∙◌, subst, Result, Ok, Err, IfOk, IfErr, All}
+use Rattle.std.proofs.Common.{◌≡◌, List, [], ◌∷◌, None, map, inr, refl, ap, sym, ◌∙◌, subst, Result, Ok, Err, IfOk, IfErr, All}
 use Rattle.bundle.specs.Entry.{Entry}
 use Rattle.bundle.specs.File.{file_of}
 use Rattle.bundle.specs.declared.entry.FileEntry.{FileEntry}
@@ -9,8 +9,8 @@ use Rattle.first_project.specs.declared.error.ProjectError.{ProjectError}
 use Rattle.first_project.specs.declared.error.ProjectError.TheVariants as error
 use Rattle.first_project.specs.Limits.{passed_limit}
 use Rattle.first_project.specs.Order.{InOrder}
-use Rattle.first_project.specs.Trees.{TreeFile, IsReadAs, AreReadAs, entry_of}
-use Rattle.first_project.specs.Kept.{files_of, tree_file, tree_files, IsRefusalIn}
+use Rattle.first_project.specs.Trees.{TreeFile, IsReadAs, entry_of}
+use Rattle.first_project.specs.Kept.{files_of, tree_files, IsRefusalIn}
 use Rattle.first_project.specs.Answers.{AreTaken, AreJudged, AnswersOn, IsFaultOf, IsCauseOf}
 
 pub entries : (read : List ReadFile) → map entry_of (tree_files read) ≡ files_of (map (λ (r : ReadFile). r.file) read)

@@ -1,5 +1,5 @@
 -- Files that have answers have no cause why they aren't judged.
-use Rattle.std.proofs.Common.{◌≡◌, ◌≢◌, ◌⊎◌, ℕ, ◌<◌, ◌≤◌, Bool, true, false, List, [], ◌∷◌, ◌++◌, Option, Some, None, length, map, get_or, zero, suc, All, AllPairs, Contains, inl, inr, refl, ap, sym, ◌∙◌, subst, arith}
+use Rattle.std.proofs.Common.{◌≡◌, ◌≢◌, ◌⊎◌, ℕ, ◌<◌, ◌≤◌, Bool, true, false, List, [], ◌∷◌, ◌++◌, length, map, get_or, zero, suc, All, AllPairs, Contains, inl, inr, refl, ap, sym, ◌∙◌, subst, arith}
 use Rattle.std.specs.Cmp.{IsStrictWeakOrder}
 use Rattle.std.specs.Ordering.{nat_cmp, is_eq, is_lt, ordering_reverse}
 use Rattle.std.specs.declared.cmp.Ordering.{Ordering}
@@ -15,7 +15,6 @@ use Rattle.std.proofs.lemmas.List.Sorted.{sorted_far, IsPermutation-map, IsPermu
 use Rattle.std.proofs.lemmas.List.Elements.{All-contains, All-map, Contains-append_right}
 use Rattle.std.proofs.lemmas.Slice.Eq.{bytes_eq-Decides}
 use Rattle.desk_base.specs.declared.limit.LimitName.{LimitName}
-use Rattle.desk_base.specs.declared.limit.LimitName.TheVariants as limit
 use Rattle.java_tree.specs.declared.file.FileTree.{FileTree}
 use Rattle.java_reader.specs.declared.error.ReadError.{ReadError}
 use Rattle.java_reader.specs.Reads.{Reads}
@@ -23,12 +22,11 @@ use Rattle.bundle.specs.Entry.{Entry}
 use Rattle.report.specs.declared.answers.Answers.{Answers}
 use Rattle.first_judge.specs.Project.{ClassText}
 use Rattle.first_judge.specs.Counts.{finding_count}
-use Rattle.first_project.specs.Limits.{passed_limit}
 use Rattle.first_project.specs.Order.{path_before, InOrder}
 use Rattle.first_project.specs.Trees.{TreeFile, entry_of, IsReadAs, AreReadAs, IsUnread, types_of}
 use Rattle.first_project.specs.Repeats.{NoRepeat, FirstRepeat, name_of}
 use Rattle.first_project.specs.Form.{IsFit, FirstUnfit}
-use Rattle.first_project.specs.Answers.{AnswersOn, Taken, IsUnfit, IsFull, IsPassed}
+use Rattle.first_project.specs.Answers.{AnswersOn, Taken, IsUnfit, IsPassed}
 
 -- ---- one order
 
@@ -65,13 +63,13 @@ rising_from : (files : List Entry) → Far files → Distinct files → Rising f
 unfolding Rising
 rising_from [] far distinct = tt
 rising_from (e ∷ files) far distinct = (
-    λ k d low. head k d low,
-    rising_from files (λ i j d up low. far (suc i) (suc j) d (omega arith) (omega arith)) (λ i j d up low. distinct (suc i) (suc j) d (omega arith) (omega arith)),
-  ) where
-    head : (k : ℕ) (d : Entry) → k < length files → path_before e (get_or files k d) ≡ true
-    head k d low =
-        let other : e.path ≢ (get_or files k d).path = λ same. distinct 0 (suc k) d.path (omega arith) (omega (arith, low, length-map files (λ (x : Entry). x.path))) (same ∙ sym (get_or-map (λ (x : Entry). x.path) files k d d.path low)) in
-        before_by e (get_or files k d) (path_before e (get_or files k d)) refl (far 0 (suc k) d (omega arith) (omega arith)) other
+  λ k d low. head k d low,
+  rising_from files (λ i j d up low. far (suc i) (suc j) d (omega arith) (omega arith)) (λ i j d up low. distinct (suc i) (suc j) d (omega arith) (omega arith)),
+) where
+  head : (k : ℕ) (d : Entry) → k < length files → path_before e (get_or files k d) ≡ true
+  head k d low =
+      let other : e.path ≢ (get_or files k d).path = λ same. distinct 0 (suc k) d.path (omega arith) (omega (arith, low, length-map files (λ (x : Entry). x.path))) (same ∙ sym (get_or-map (λ (x : Entry). x.path) files k d d.path low)) in
+      before_by e (get_or files k d) (path_before e (get_or files k d)) refl (far 0 (suc k) d (omega arith) (omega arith)) other
 
 abbrev Within : List Entry → List Entry → Type 0
 Within xs ys = (e : Entry) → Contains xs e → Contains ys e
@@ -121,8 +119,8 @@ one_order (x ∷ xs) (y ∷ ys) a b f g =
     let P : Entry → Type 0 = λ d. Within xs (d ∷ ys) in
     let Q : Entry → Type 0 = λ d. Within ys (d ∷ xs) in
     let tail : xs ≡ ys = one_order xs ys a.1 b.1
-        (rest_within x xs ys a.0 (subst P (sym head) (λ e among. f e (there x e xs among))))
-        (rest_within y ys xs b.0 (subst Q head (λ e among. g e (there y e ys among)))) in
+    (rest_within x xs ys a.0 (subst P (sym head) (λ e among. f e (there x e xs among))))
+    (rest_within y ys xs b.0 (subst Q head (λ e among. g e (there y e ys among)))) in
     rw (head, tail) refl
 
 flips_by : (a b : Bool) → (a ≡ true → b ≡ true) → (b ≡ true → a ≡ true) → a ≡ b
@@ -137,7 +135,7 @@ rising : (files sorted : List Entry) → Distinct files → InOrder files sorted
 rising files sorted distinct order =
     let path = λ (e : Entry). e.path in
     let apart : Distinct sorted = AllPairs-from_IsDistinct bytes_eq-Decides (map path sorted)
-        (IsDistinct-IsPermutation bytes_eq flips (map path files) (map path sorted) (IsPermutation-map path files sorted order.same) (IsDistinct-from_AllPairs bytes_eq-Decides (map path files) distinct)) in
+    (IsDistinct-IsPermutation bytes_eq flips (map path files) (map path sorted) (IsPermutation-map path files sorted order.same) (IsDistinct-from_AllPairs bytes_eq-Decides (map path files) distinct)) in
     rising_from sorted (sorted_far path_before paths_order sorted order.rising) apart
 
 one_sorted : (files a b : List Entry) → Distinct files → InOrder files a → InOrder files b → a ≡ b

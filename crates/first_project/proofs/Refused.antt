@@ -1,5 +1,5 @@
 -- A file that isn't read, and those before it.
-use Rattle.std.proofs.Common.{◌≡◌, ◌≢◌, ℕ, ◌+◌, ◌<◌, List, [], ◌∷◌, ◌++◌, length, get_or, map, take, drop, refl, ap, sym, ◌∙◌, subst, Result, Ok, Err, IfErr, All}
+use Rattle.std.proofs.Common.{◌≡◌, ◌≢◌, ℕ, ◌+◌, ◌<◌, List, ◌∷◌, ◌++◌, length, get_or, map, take, drop, ap, sym, ◌∙◌, subst, Result, Ok, Err, IfErr, All}
 use Rattle.std.specs.Borrow.{Bor}
 use Rattle.std.specs.Result.{IsErrAnd}
 use Rattle.std.proofs.lemmas.List.{get_or_default}
@@ -15,7 +15,7 @@ use Rattle.java_reader.specs.declared.error.ReadError.TheVariants as fault
 use Rattle.java_reader.specs.Reads.{Reads, IsCauseOf}
 use Rattle.first_project.specs.declared.error.ProjectError.{ProjectError}
 use Rattle.first_project.specs.declared.error.ProjectError.TheVariants as error
-use Rattle.first_project.specs.Trees.{TreeFile, IsReadAs, IsRefused, FirstRefused, entry_of}
+use Rattle.first_project.specs.Trees.{TreeFile, IsReadAs, IsRefused, entry_of}
 use Rattle.first_project.specs.Kept.{files_of, tree_files, refusal_for, IsRefusal, IsRefusalIn}
 
 refused : (text : List ℕ) (why : ReadError) → ((tree : FileTree) → Reads text tree → why ≡ fault.OutOfMemory) → IsCauseOf text why → why ≢ fault.OutOfMemory → IsRefused text why

@@ -1,10 +1,8 @@
 -- One ending for the bundle that some bytes are.
-use Rattle.std.proofs.Common.{◌≡◌, ◌≢◌, inl, inr, ℕ, Bool, true, false, List, [], ◌∷◌, ◌++◌, map, refl, ap, sym, ◌∙◌, subst, arith, append-nil, suc, Option, Some, None, Result, Ok, Err, IfOk}
-use Rattle.std.specs.List.{All, Contains}
+use Rattle.std.proofs.Common.{◌≡◌, inl, inr, ℕ, Bool, true, false, List, [], refl, sym, subst, arith, Option, Some, None, Result, Ok, Err, IfOk}
 use Rattle.std.specs.Option.{IfSome}
-use Rattle.std.proofs.lemmas.List.Elements.{All-contains, All-map}
 use Rattle.bundle.specs.Entry.{Entry}
-use Rattle.bundle.specs.Bundle.{IsBundle, BadAt, end_line}
+use Rattle.bundle.specs.Bundle.{IsBundle}
 use Rattle.bundle.proofs.Whole.{bad_no_bundle}
 use Rattle.report.specs.declared.answers.Answers.{Answers}
 use Rattle.report.specs.Report.{report_bytes}

@@ -1,5 +1,5 @@
 -- What a check of some bytes answers.
-use Rattle.std.specs.Prelude.{◌≡◌, ◌⊎◌, ℕ, ◌<◌, ◌≤◌, Bool, true, false, List, Option, Some, None, length}
+use Rattle.std.specs.Prelude.{◌≡◌, ◌⊎◌, ℕ, ◌<◌, ◌≤◌, Bool, true, false, List, None, length}
 use Rattle.std.specs.List.{list_any}
 use Rattle.desk_base.specs.declared.limit.LimitName.{LimitName}
 use Rattle.desk_base.specs.declared.limit.LimitName.TheVariants as limit

@@ -85,30 +85,9 @@ const BROKEN_CLASS: &str =
 
 /// A word, an input, the calls that fail of the source and of the sink, and how the run ends.
 const RUNS: [(&str, &str, Option<u64>, Option<u64>, u8, &str); 26] = [
-    (
-        "check",
-        ACCOUNT,
-        None,
-        None,
-        0,
-        ACCOUNT_REPORT,
-    ),
-    (
-        "check",
-        BROKEN,
-        None,
-        None,
-        1,
-        BROKEN_REPORT,
-    ),
-    (
-        "check",
-        "end\n",
-        None,
-        None,
-        0,
-        EMPTY_REPORT,
-    ),
+    ("check", ACCOUNT, None, None, 0, ACCOUNT_REPORT),
+    ("check", BROKEN, None, None, 1, BROKEN_REPORT),
+    ("check", "end\n", None, None, 0, EMPTY_REPORT),
     (
         "check",
         "file Account.java 112\n@RegionLock(\"L is this protects Instance\")\nclass Account {\n  int n;\n  synchronized void deposit() { n += 1; }\n}\n\nend\n ",
@@ -237,62 +216,13 @@ const RUNS: [(&str, &str, Option<u64>, Option<u64>, u8, &str); 26] = [
         6,
         "bad bundle at 15\n",
     ),
-    (
-        "check",
-        "",
-        None,
-        None,
-        6,
-        "bad bundle at 0\n",
-    ),
-    (
-        "check",
-        "end\n ",
-        None,
-        None,
-        6,
-        "bad bundle at 4\n",
-    ),
-    (
-        "check now",
-        "end\n",
-        None,
-        None,
-        2,
-        USAGE,
-    ),
-    (
-        "check",
-        "end\n",
-        Some(1),
-        None,
-        3,
-        "input fault\n",
-    ),
-    (
-        "check",
-        "end\n",
-        Some(2),
-        None,
-        3,
-        "input fault\n",
-    ),
-    (
-        "check",
-        "end\n",
-        None,
-        Some(1),
-        4,
-        "",
-    ),
-    (
-        "",
-        "end\n",
-        None,
-        None,
-        2,
-        USAGE,
-    ),
+    ("check", "", None, None, 6, "bad bundle at 0\n"),
+    ("check", "end\n ", None, None, 6, "bad bundle at 4\n"),
+    ("check now", "end\n", None, None, 2, USAGE),
+    ("check", "end\n", Some(1), None, 3, "input fault\n"),
+    ("check", "end\n", Some(2), None, 3, "input fault\n"),
+    ("check", "end\n", None, Some(1), 4, ""),
+    ("", "end\n", None, None, 2, USAGE),
 ];
 
 #[test]
@@ -444,7 +374,10 @@ fn tells_the_first_form_from_others(rt: HostRuntime) -> Result<(), Fail> {
     for text in OF_OTHER_FORMS {
         let bundle = bundle_of(alloc, text)?;
         let (_, written) = run(alloc, "check", bundle.as_str(), None, None)?;
-        assert!(rt; written.as_slice() == b"unreadable A.java form at 0\n".as_slice(), "{text}");
+        assert!(rt;
+            written.as_slice() == b"unreadable A.java form at 0\n".as_slice(),
+            "{text}"
+        );
     }
     Ok(())
 }

@@ -1,11 +1,9 @@
-use Rattle.std.proofs.Common.{ap, sym, subst, List, rules}
+use Rattle.std.proofs.Common.{subst, List, rules}
 use Rattle.std.specs.List.Sorted.{IsPermutation}
-use Rattle.std.specs.Ordering.{nat_cmp, is_lt}
-use Rattle.std.specs.Cmp.Lexicographic.{slice_cmp, nat_list_cmp_total}
+use Rattle.std.specs.Cmp.Lexicographic.{nat_list_cmp_total}
 use Rattle.std.proofs.lemmas.List.MinMax.{ranks_by}
 use Rattle.std.proofs.lemmas.List.Sorted.{IsPermutation-map}
 use Rattle.std.proofs.lemmas.Fn.{always_returns_same}
-use Rattle.bundle.specs.Entry.{Entry}
 use Rattle.bundle.specs.File.{file_of}
 use Rattle.bundle.specs.declared.entry.FileEntry.{FileEntry}
 use Rattle.first_project.specs.Order.{path_before}

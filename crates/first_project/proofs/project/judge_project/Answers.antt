@@ -1,9 +1,8 @@
-use Rattle.std.proofs.Common.{ap, sym, ◌∙◌, subst, List}
+use Rattle.std.proofs.Common.{sym, ◌∙◌, subst, List}
 use Rattle.first_project.specs.declared.reading.ReadFile.{ReadFile}
 use Rattle.first_project.specs.Answers.{AreTaken}
-use Rattle.first_project.specs.Order.{InOrder}
 use Rattle.first_project.specs.Kept.{files_of, tree_files}
-use Rattle.first_project.proofs.Causes.{taken_of, answers_of, cause_of, refusal_of}
+use Rattle.first_project.proofs.Causes.{taken_of, answers_of, cause_of}
 use Rattle.first_project.proofs.project.judge_project.Goals as goal
 
 pub returns-clause-answers : goal.returns-clause-answers

@@ -1,6 +1,5 @@
 use Rattle.bundle.specs.File.{file_of}
 use Rattle.std.proofs.Common.{refl, sym, subst}
-use Rattle.first_project.specs.declared.error.ProjectError.{ProjectError}
 use Rattle.first_project.specs.Kept.{IsRefusal}
 use Rattle.first_project.proofs.Refused.{refusal_is}
 use Rattle.first_project.proofs.reading.read_one.Goals as goal

@@ -1,10 +1,9 @@
-use Rattle.std.proofs.Common.{◌≡◌, ◌+◌, Some, None, List, take, drop, take_all, refl, sym, ◌∙◌, subst, ap}
-use Rattle.std.specs.BTreeMap.{get}
+use Rattle.std.proofs.Common.{◌+◌, Some, None, List, take, drop, take_all, refl, sym, ◌∙◌, subst}
 use Rattle.first_judge.specs.declared.project.ClassFile.{ClassFile}
 use Rattle.first_judge.specs.Project.{ClassText}
 use Rattle.first_judge.specs.Parts.{class_text, class_texts}
-use Rattle.first_project.specs.Repeats.{NoRepeat, name_of}
-use Rattle.first_project.specs.Kept.{key_cmp, ArePaths}
+use Rattle.first_project.specs.Repeats.{NoRepeat}
+use Rattle.first_project.specs.Kept.{ArePaths}
 use Rattle.first_project.proofs.Lists.{map_more, map_split}
 use Rattle.first_project.proofs.RepeatMore.{got, apart_more, paths_put}
 use Rattle.first_project.proofs.repeats.first_repeat.Goals as goal

@@ -1,8 +1,5 @@
-use Rattle.std.proofs.Common.{sym, subst}
 use Rattle.desk_base.specs.Fault.{Rises}
 use Rattle.promise_desk.specs.Endings.{text_of}
-use Rattle.promise_desk.specs.declared.intake.IntakeError.{IntakeError}
-use Rattle.promise_desk.specs.IntakeErrors.{IsCauseOf}
 use Rattle.promise_desk.proofs.Files.{too_long}
 use Rattle.promise_desk.proofs.desk.check.Goals as goal
 
