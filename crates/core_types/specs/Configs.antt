@@ -139,3 +139,7 @@ pub record ConfigFits (p : Program) (T : Types) (c : Config) : Type 0 where
   pub threads : Each (λ (thread : Thread). ThreadFits p T c.objects thread) c.threads
   pub spined : EveryCall (λ (call : Call). Spined call.rest) c.threads
   pub counted : Counted c
+
+-- WellTyped, of a configuration of the program
+abbrev pub WellTypedConfig : Program → Config → Type 0
+WellTypedConfig p c = (T : Types) × ConfigFits p T c

@@ -88,3 +88,7 @@ pub record ProgramFits (p : Program) (T : Types) : Type 0 where
   pub units : (u : ℕ) (code : UnitCode) → slice_get p.units u ≡ Some code → UnitFits p T u code
   pub mains : (c : ℕ) → has p.mains c ≡ true → MainFits T (unit_number p c MAIN 1)
   pub unmarked : HasNoMarks p
+
+-- WellTyped, of a program: there are types by which it is
+abbrev pub WellTyped : Program → Type 0
+WellTyped p = (T : Types) × ProgramFits p T

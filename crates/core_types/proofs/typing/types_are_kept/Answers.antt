@@ -10,3 +10,7 @@ returns-clause-kept c = step-fits
 
 pub returns-clause-always : goal.returns-clause-always
 returns-clause-always c = λ p T program mains schedule h. run-fits p T (begin p mains) schedule (begin-fits p T program mains h)
+
+pub returns-clause-well_typed : goal.returns-clause-well_typed
+returns-clause-well_typed c = λ p typed mains schedule h.
+    (typed.0, run-fits p typed.0 (begin p mains) schedule (begin-fits p typed.0 typed.1 mains h))
