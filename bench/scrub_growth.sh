@@ -79,6 +79,6 @@ fn main(rt: HostRuntime) -> Result<()> {
     Ok(())
 }
 PROGRAM
-sed -i "s/^\/\/ A class of/const COUNT: u32 = $count;\nconst ROUNDS: u32 = ${2:-8};\n\n&/" "$work/crates/scrub_growth/src/main.rt"
+sed -i "s/^\/\/ A class of/const COUNT: u32 = $count;\nconst ROUNDS: u32 = ${2:-40};\n\n&/" "$work/crates/scrub_growth/src/main.rt"
 cd "$work/crates/scrub_growth"
 rt run
