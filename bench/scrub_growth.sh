@@ -1,0 +1,84 @@
+#!/bin/sh
+# How the time to scrub a class grows with its annotations: a class of N regions, N fields in them and
+# N methods with three promises each, and one of 2N. It prints the least of several times for both,
+# and their ratio in hundredths: about 200 to 230 where the time is linear up to a logarithm, 400 where
+# it is the square. What is proved already isn't proved again.
+set -eu
+top=$(cd "$(dirname "$0")/.." && pwd)
+count=${1:-1000}
+work=$(mktemp -d)
+trap 'rm -rf "$work"' EXIT
+mkdir -p "$work/crates/scrub_growth/src"
+names="desk_base java_tree java_lexer java_phrases java_heads java_expressions java_statements java_members promise_grammar region_tree class_faces promise_marks scrub_rules promise_scrub"
+for name in $names; do
+    cp -a "$top/crates/$name" "$work/crates/$name"
+    grep "^$name:" "$top/crates.txt" >> "$work/crates.txt"
+done
+echo "scrub_growth: desk_base java_tree java_lexer java_phrases java_heads java_members promise_scrub sqlite_items anyhow" >> "$work/crates.txt"
+cp "$top/crates/class_surfaces/src/reading.rt" "$work/crates/scrub_growth/src/"
+cat > "$work/crates/scrub_growth/src/main.rt" <<'PROGRAM'
+#![tactic(auto)]
+
+mod reading;
+
+use anyhow::{Result, anyhow};
+use java_tree::ClassTree;
+use promise_scrub::surface_of;
+use reading::Reading;
+use std::alloc::Global;
+use std::time::Instant;
+
+// A class of so many regions, fields and methods.
+fn class_text(alloc: Global, count: u32) -> Result<String> {
+    let mut text = String::new(alloc);
+    for i in 0..count {
+        text.push_str(format!(in alloc; "@Region(\"R{i}\")\n")?.as_str())?;
+    }
+    text.push_str("class C {\n")?;
+    for i in 0..count {
+        text.push_str(format!(in alloc; "@InRegion(\"R{i}\") int f{i};\n")?.as_str())?;
+    }
+    for i in 0..count {
+        text.push_str("@Starts(\"nothing\") @Borrowed(\"this\") ")?;
+        text.push_str(format!(in alloc; "@RegionEffects(\"reads R{i}\") void m{i}() {{ }}\n")?.as_str())?;
+    }
+    text.push_str("}\n")?;
+    Ok(text)
+}
+
+fn class_tree(alloc: Global, count: u32) -> Result<ClassTree> {
+    let text = class_text(alloc, count)?;
+    let mut reading = Reading::new(alloc, text.as_bytes())?;
+    match reading.next_class(alloc)? {
+        Some(class) => Ok(class),
+        None => Err(anyhow!("there is no class")),
+    }
+}
+
+fn measured(rt: &HostRuntime, count: u32) -> Result<u64> {
+    let class = class_tree(rt.alloc(), count)?;
+    let mut least = u64::MAX;
+    for _round in 0..ROUNDS {
+        let start = Instant::now(rt)?;
+        let surface = surface_of(rt.alloc(), &class)?;
+        let took = u64::try_from(start.elapsed(rt)?.as_micros()).unwrap_or(u64::MAX);
+        if !surface.aside.is_empty() {
+            println!(rt; "a promise is set aside")?;
+        }
+        least = least.min(took);
+    }
+    Ok(least)
+}
+
+fn main(rt: HostRuntime) -> Result<()> {
+    let once = measured(&rt, COUNT)?;
+    let twice = measured(&rt, COUNT * 2)?;
+    println!(rt; "members {COUNT} microseconds {once}")?;
+    println!(rt; "members {} microseconds {twice}", COUNT * 2)?;
+    println!(rt; "ratio in hundredths {}", twice.saturating_mul(100) / once.max(1))?;
+    Ok(())
+}
+PROGRAM
+sed -i "s/^\/\/ A class of/const COUNT: u32 = $count;\nconst ROUNDS: u32 = ${2:-40};\n\n&/" "$work/crates/scrub_growth/src/main.rt"
+cd "$work/crates/scrub_growth"
+rt run
