@@ -11,3 +11,4 @@ pub mod Outcomes
 pub mod Numbers
 pub mod Sampled
 pub mod Refused
+pub mod Reached

@@ -7,3 +7,4 @@ pub mod Programs
 pub mod Configs
 pub mod Faults
 pub mod Sample
+pub mod Reaching

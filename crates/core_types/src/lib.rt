@@ -4,6 +4,7 @@
 
 mod ending;
 mod growing;
+mod reaching;
 mod refusing;
 mod sample;
 #[cfg(test)]
@@ -12,6 +13,7 @@ mod typing;
 
 pub use ending::threads_end_by_faults;
 pub use growing::code_is_typed_by_parts;
+pub use reaching::fields_that_are_reached_are_declared;
 pub use refusing::ill_typed_code_is_refused;
 pub use sample::a_counter_is_well_typed;
 pub use typing::types_are_kept;
