@@ -5,26 +5,24 @@
 # it is the square. What is proved already isn't proved again.
 set -eu
 top=$(cd "$(dirname "$0")/.." && pwd)
-count=${1:-1000}
+# A file of more than 900 wouldn't be read twice as large.
+count=${1:-900}
 work=$(mktemp -d)
 trap 'rm -rf "$work"' EXIT
 mkdir -p "$work/crates/scrub_growth/src"
-names="desk_base java_tree java_lexer java_phrases java_heads java_expressions java_statements java_members promise_grammar region_tree class_faces promise_marks scrub_rules promise_scrub"
+names="desk_base java_tree java_lexer java_phrases java_heads java_expressions java_statements java_members java_reader promise_grammar region_tree class_faces promise_marks scrub_rules promise_scrub"
 for name in $names; do
     cp -a "$top/crates/$name" "$work/crates/$name"
     grep "^$name:" "$top/crates.txt" >> "$work/crates.txt"
 done
-echo "scrub_growth: desk_base java_tree java_lexer java_phrases java_heads java_members promise_scrub sqlite_items anyhow" >> "$work/crates.txt"
-cp "$top/crates/class_surfaces/src/reading.rt" "$work/crates/scrub_growth/src/"
+echo "scrub_growth: desk_base java_tree java_reader promise_scrub sqlite_items anyhow" >> "$work/crates.txt"
 cat > "$work/crates/scrub_growth/src/main.rt" <<'PROGRAM'
 #![tactic(auto)]
 
-mod reading;
-
 use anyhow::{Result, anyhow};
-use java_tree::ClassTree;
+use java_reader::read_file;
+use java_tree::FileTree;
 use promise_scrub::surface_of;
-use reading::Reading;
 use std::alloc::Global;
 use std::time::Instant;
 
@@ -46,21 +44,20 @@ fn class_text(alloc: Global, count: u32) -> Result<String> {
     Ok(text)
 }
 
-fn class_tree(alloc: Global, count: u32) -> Result<ClassTree> {
+fn file_tree(alloc: Global, count: u32) -> Result<FileTree> {
     let text = class_text(alloc, count)?;
-    let mut reading = Reading::new(alloc, text.as_bytes())?;
-    match reading.next_class(alloc)? {
-        Some(class) => Ok(class),
-        None => Err(anyhow!("there is no class")),
-    }
+    Ok(read_file(alloc, text.as_bytes())?)
 }
 
 fn measured(rt: &HostRuntime, count: u32) -> Result<u64> {
-    let class = class_tree(rt.alloc(), count)?;
+    let file = file_tree(rt.alloc(), count)?;
+    let Some(class) = file.types.as_slice().first() else {
+        return Err(anyhow!("there is no class"));
+    };
     let mut least = u64::MAX;
     for _round in 0..ROUNDS {
         let start = Instant::now(rt)?;
-        let surface = surface_of(rt.alloc(), &class)?;
+        let surface = surface_of(rt.alloc(), class)?;
         let took = u64::try_from(start.elapsed(rt)?.as_micros()).unwrap_or(u64::MAX);
         if !surface.aside.is_empty() {
             println!(rt; "a promise is set aside")?;
