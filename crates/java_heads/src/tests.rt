@@ -20,7 +20,11 @@ const TEXTS: [(Part, &[u8], bool); 6] = [
     (Part::Import, b"import static a.b.*;", true),
     (Part::Header, b"@B public class A implements B, C {", true),
     (Part::Field, b"private static final int n = -1;", true),
-    (Part::Sig, b"@B int f(final int n, A a) throws c.D, E;", true),
+    (
+        Part::Sig,
+        b"@B int f(final int n, A a) throws c.D, E;",
+        true,
+    ),
     (Part::Sig, b"void f(static int n);", false),
 ];
 
