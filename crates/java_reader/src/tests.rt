@@ -238,6 +238,69 @@ const REFUSED_TOO: [&[u8]; 29] = [
     b"throw a;",
 ];
 
+/// The five files of a job queue.
+const JOB_QUEUE: [&[u8]; 5] = [
+    b"package jobs;\n\
+        @Region(\"Slots\")\n\
+        @RegionLock(\"QueueLock is lock protects Slots\")\n\
+        public class JobQueue {\n\
+          private final Object lock = new Object();\n\
+          @InRegion(\"Slots\") private int count;\n\
+          @Unique @InRegion(\"Slots\") private Ring ring;\n\
+          @Unique(\"return\") public JobQueue() { ring = new Ring(); }\n\
+          public boolean offer(int job) {\n\
+            synchronized (lock) {\n\
+              if (count < 4) { ring.put(job); count++; return true; }\n\
+              return false;\n\
+            }\n\
+          }\n\
+          public int poll() { synchronized (lock) { return take(); } }\n\
+          @RequiresLock(\"QueueLock\") private int take() {\n\
+            if (count == 0) { return -1; }\n\
+            count--;\n\
+            return ring.get();\n\
+          }\n\
+        }\n",
+    b"package jobs;\n\
+        @Promise(\"@Borrowed(this) for *(**)\")\n\
+        @Promise(\"@Borrowed(this) for new(**)\")\n\
+        public class Ring {\n\
+          private int a;\n\
+          private int b;\n\
+          public Ring() { }\n\
+          public void put(int v) { b = a; a = v; }\n\
+          public int get() { return a; }\n\
+        }\n",
+    b"package jobs;\n\
+        @RegionLock(\"StatsLock is this protects Instance\")\n\
+        public class Stats {\n\
+          private int done;\n\
+          public synchronized void add() { done++; }\n\
+          public synchronized int total() { return done; }\n\
+        }\n",
+    b"package jobs;\n\
+        public class Worker implements Runnable {\n\
+          private final JobQueue queue;\n\
+          private final Stats stats;\n\
+          public Worker(JobQueue q, Stats s) { this.queue = q; this.stats = s; }\n\
+          @Override public void run() {\n\
+            int job = queue.poll();\n\
+            while (job != -1) { stats.add(); job = queue.poll(); }\n\
+          }\n\
+        }\n",
+    b"package jobs;\n\
+        public class Main {\n\
+          public static void main(String[] args) {\n\
+            JobQueue q = new JobQueue();\n\
+            Stats s = new Stats();\n\
+            for (int i = 0; i < 4; i++) { q.offer(i); }\n\
+            new Thread(new Worker(q, s)).start();\n\
+            new Thread(new Worker(q, s)).start();\n\
+            new Thread(new Worker(q, s)).start();\n\
+          }\n\
+        }\n",
+];
+
 /// Places of the account's file and their lines.
 const LINES: [(u32, u32); 8] = [
     (0, 1),
@@ -450,5 +513,13 @@ fn account(rt: HostRuntime) -> Result<(), Fail> {
     one_tree();
     one_spelling();
     parts_follow();
+    Ok(())
+}
+
+#[test]
+fn job_queue(rt: HostRuntime) -> Result<(), Fail> {
+    for text in JOB_QUEUE {
+        assert_eq!(rt; fault_of(read_file(rt.alloc(), text)), None);
+    }
     Ok(())
 }
