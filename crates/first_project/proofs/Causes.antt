@@ -1,28 +1,19 @@
 -- What stands for files that were read stands for the project.
-use Rattle.std.proofs.Common.{◌≡◌, List, [], ◌∷◌, None, map, inr, refl, ap, sym, ◌∙◌, subst, Result, Ok, Err, IfOk, IfErr, All}
+use Rattle.std.proofs.Common.{◌≡◌, List, None, inr, sym, subst, Result, Ok, Err, IfOk, IfErr}
 use Rattle.bundle.specs.Entry.{Entry}
-use Rattle.bundle.specs.File.{file_of}
-use Rattle.bundle.specs.declared.entry.FileEntry.{FileEntry}
 use Rattle.report.specs.declared.answers.Answers.{Answers}
-use Rattle.first_project.specs.declared.reading.ReadFile.{ReadFile}
+use Rattle.first_project.specs.declared.progress.Progress.{Progress}
 use Rattle.first_project.specs.declared.error.ProjectError.{ProjectError}
 use Rattle.first_project.specs.declared.error.ProjectError.TheVariants as error
 use Rattle.first_project.specs.Limits.{passed_limit}
 use Rattle.first_project.specs.Order.{InOrder}
-use Rattle.first_project.specs.Trees.{TreeFile, IsReadAs, entry_of}
-use Rattle.first_project.specs.Kept.{files_of, tree_files, IsRefusalIn}
+use Rattle.first_project.specs.Trees.{TreeFile}
+use Rattle.first_project.specs.Kept.{AreKnown, IsRefusalIn}
 use Rattle.first_project.specs.Answers.{AreTaken, AreJudged, AnswersOn, IsFaultOf, IsCauseOf}
 
-pub entries : (read : List ReadFile) → map entry_of (tree_files read) ≡ files_of (map (λ (r : ReadFile). r.file) read)
-entries [] = refl
-entries (r ∷ read) = ap (λ l. file_of r.file ∷ l) (entries read)
-
 -- the files were sorted and read
-pub taken_of : (files sorted : List FileEntry) (read : List ReadFile) → passed_limit (files_of files) ≡ None → InOrder (files_of files) (files_of sorted) → map (λ (r : ReadFile). r.file) read ≡ sorted → All IsReadAs (tree_files read) → AreTaken (files_of files) (tree_files read)
-taken_of files sorted read within order same each = record {
-  within = within;
-  read = record { order = subst (InOrder (files_of files)) (sym (entries read ∙ ap files_of same)) order; each = each };
-}
+pub taken_of : (files sorted : List Entry) (p : Progress) (known : AreKnown sorted p) → passed_limit files ≡ None → InOrder files sorted → AreTaken files known.trees
+taken_of files sorted p known within order = record { within = within; read = record { order = subst (InOrder files) (sym known.same) order; each = known.each } }
 
 pub answers_of : (files : List Entry) (trees : List TreeFile) (r : Result Answers ProjectError) → AreTaken files trees → IfOk r (AreJudged trees) → IfOk r (AnswersOn files)
 answers_of files trees (Ok answers) taken judged = record { trees = trees; taken = taken; judged = judged }
