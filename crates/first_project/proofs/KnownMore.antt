@@ -1,6 +1,5 @@
 -- What is known of files, and of one more.
-use Rattle.std.proofs.Common.{◌≡◌, List, [], ◌∷◌, ◌++◌, Option, None, map, All, refl, sym, ap, ◌∙◌, subst}
-use Rattle.std.specs.Borrow.{Bor}
+use Rattle.std.proofs.Common.{◌≡◌, List, [], ◌∷◌, ◌++◌, Option, None, map, ap, ◌∙◌, subst}
 use Rattle.std.proofs.lemmas.List.{flat_map_more, map-append}
 use Rattle.std.proofs.lemmas.List.Elements.{All-push}
 use Rattle.bundle.specs.Entry.{Entry}
@@ -8,8 +7,6 @@ use Rattle.first_judge.specs.Project.{ClassText}
 use Rattle.first_project.specs.declared.repeats.Repeat.{Repeat}
 use Rattle.first_project.specs.declared.progress.Progress.{Progress}
 use Rattle.first_project.specs.Trees.{TreeFile, IsReadAs, class_in, entry_of, types_of}
-use Rattle.first_project.specs.Repeats.{NoRepeat}
-use Rattle.first_project.specs.Form.{IsFit}
 use Rattle.first_project.specs.Answers.{AreFit}
 use Rattle.first_project.specs.Kept.{AreNamed, NamedBy, UnfitOf, AreCounted, IsKnown, AreKnown}
 

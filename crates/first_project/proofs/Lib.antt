@@ -1,9 +1,7 @@
 pub mod LimitMore
 pub mod Lists
 pub mod RepeatMore
-pub mod UnfitMore
 pub mod TallyMore
 pub mod KnownMore
-pub mod Causes
 pub mod OneAnswer
 pub mod Refused

@@ -1,6 +1,6 @@
 use Rattle.std.proofs.Common.{sym, ◌∙◌, refl}
 use Rattle.first_project.specs.Kept.{class_of}
-use Rattle.first_project.proofs.RepeatMore.{names_stay, names_more, names_repeat}
+use Rattle.first_project.proofs.RepeatMore.{names_stay, names_more}
 use Rattle.first_project.proofs.repeats.TypeNames.add.Goals as goal
 
 pub returns-then-is_some-clause-named : goal.returns-then-is_some-clause-named

@@ -1,4 +1,4 @@
-use Rattle.std.proofs.Common.{[], ◌∷◌, ◌++◌, map, take, take_all, ap, sym, ◌∙◌, subst, append_assoc, List}
+use Rattle.std.proofs.Common.{◌++◌, map, take, take_all, ◌∙◌, subst, List}
 use Rattle.java_tree.specs.declared.file.ClassTree.{ClassTree}
 use Rattle.first_judge.specs.Project.{ClassText}
 use Rattle.first_project.specs.Trees.{class_in}
