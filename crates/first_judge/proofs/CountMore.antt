@@ -1,5 +1,5 @@
 -- The findings of classes are as many as their accesses.
-use Rattle.std.proofs.Common.{◌≡◌, ℕ, ◌+◌, ◌<◌, Bool, true, false, cond, List, [], ◌∷◌, ◌++◌, Option, Some, None, length, take, get_or, refl, ap, ◌∙◌, arith, length-append}
+use Rattle.std.proofs.Common.{◌≡◌, ℕ, ◌+◌, Bool, true, false, cond, List, [], ◌∷◌, ◌++◌, Option, Some, None, length, refl, ap, ◌∙◌, arith, length-append}
 use Rattle.std.specs.List.{sum_by}
 use Rattle.std.proofs.lemmas.List.Concat.{flat_map-cons, length-flat_map}
 use Rattle.std.proofs.lemmas.List.Sums.{sum_by-cons, sum_by_push}
@@ -19,9 +19,6 @@ use Rattle.java_tree.specs.declared.member.MemberTree.TheVariants as tree
 use Rattle.first_judge.specs.Accesses.{Access, name_of, value_reads, target_uses, action_uses, stmt_uses, item_uses, items_uses, method_uses, head_tokens, is_synchronized}
 use Rattle.first_judge.specs.Findings.{has_lock, rows_with, unit_key, unit_of, units_with, rows_of}
 use Rattle.first_judge.specs.Project.{ClassText}
-use Rattle.first_judge.specs.Parts.{class_text, class_texts}
-use Rattle.first_judge.specs.declared.project.ClassFile.{ClassFile}
-use Rattle.first_judge.proofs.PartSteps.{texts_more}
 use Rattle.first_judge.specs.Counts.{findings_of, finding_count, item_count, member_count, class_count}
 
 -- ---- an item has as many accesses wherever it stands
@@ -100,5 +97,9 @@ pub count_none : finding_count [] ≡ 0
 unfolding finding_count
 count_none = refl
 
-pub count_step : (files : List ClassFile) (i : ℕ) (file : ClassFile) → i < length files → file ≡ get_or files i file → finding_count (class_texts (take (i + 1) files)) ≡ finding_count (class_texts (take i files)) + class_count file.class.now
-count_step files i file low is = ap finding_count (texts_more files i file low is) ∙ count_more (class_texts (take i files)) (class_text file)
+pub count_one : (f : ClassText) → finding_count (f ∷ []) ≡ class_count f.class
+count_one f = omega (arith, count_more [] f, count_none)
+
+-- the findings of one more file are added
+pub count_join : (files : List ClassText) (f : ClassText) → finding_count (files ++ f ∷ []) ≡ finding_count files + finding_count (f ∷ [])
+count_join files f = omega (arith, count_more files f, count_one f)

@@ -1,16 +1,16 @@
 -- One more file of a project: what has come and what is left.
-use Rattle.std.proofs.Common.{◌≡◌, ℕ, ◌+◌, ◌<◌, List, [], ◌∷◌, ◌++◌, Option, Some, None, length, take, drop, get_or, refl, ap, sym, ◌∙◌, arith}
+use Rattle.std.proofs.Common.{◌≡◌, ℕ, ◌+◌, ◌<◌, List, [], ◌∷◌, ◌++◌, Option, Some, None, length, drop, get_or, refl, ap, sym, ◌∙◌, arith, length-append}
 use Rattle.std.specs.List.{filter_map, find}
 use Rattle.std.specs.Option.{option_or, option_to_list}
-use Rattle.std.proofs.lemmas.List.{drop_more, take_more, map-append, flat_map_more}
+use Rattle.std.proofs.lemmas.List.{drop_more, flat_map_more}
 use Rattle.std.proofs.lemmas.List.Concat.{flat_map-cons}
 use Rattle.std.proofs.lemmas.List.Elements.{filter_map-append}
 use Rattle.std.proofs.lemmas.List.Folds.{find-append}
 use Rattle.std.proofs.lemmas.List.Sums.{sum_by-append}
 use Rattle.report.specs.declared.answers.VerdictRow.{VerdictRow}
 use Rattle.first_judge.specs.declared.rows.UnitRows.{UnitRows}
-use Rattle.first_judge.specs.declared.project.ClassFile.{ClassFile}
-use Rattle.first_judge.specs.Parts.{class_text, class_texts}
+use Rattle.first_judge.specs.declared.project.Parts.{Parts}
+use Rattle.first_judge.specs.Parts.{AreAdded}
 use Rattle.first_judge.specs.Findings.{rows_of}
 use Rattle.first_judge.specs.Project.{ClassText, Part, IsPartOf, AreParts, ArePut, unit_count}
 
@@ -41,6 +41,18 @@ one_more_part files units locks count f part put is = record {
   counted = ap (λ n. n + unit_count f) put.counted ∙ omega (arith, sum_by-append unit_count files (f ∷ []));
 }
 
-pub texts_more : (files : List ClassFile) (i : ℕ) (file : ClassFile) → i < length files → file ≡ get_or files i file → class_texts (take (i + 1) files) ≡ class_texts (take i files) ++ (class_text file ∷ [])
-texts_more files i file low is =
-    ap class_texts (take_more files i file low) ∙ map-append class_text (take i files) (get_or files i file ∷ []) ∙ ap (λ f. class_texts (take i files) ++ (class_text f ∷ [])) (sym is)
+-- no file adds anything
+pub none_added : (parts : Parts) → parts.units.items ≡ [] → parts.locks.items ≡ [] → parts.count ≡ 0 → parts.files ≡ 0 → AreAdded [] parts
+none_added parts units locks count files = record {
+  put = record { parts = []; each = tt; of_units = units; of_locks = locks; counted = count };
+  counted = files;
+}
+
+-- one more file was added
+pub added_more : (files : List ClassText) (f : ClassText) (part : Part) (old new : Parts) → IsPartOf f part
+    → new.units.items ≡ old.units.items ++ part.units → new.locks.items ≡ old.locks.items ++ option_to_list part.lock → new.count ≡ old.count + unit_count f → new.files ≡ old.files + 1
+    → AreAdded files old → AreAdded (files ++ f ∷ []) new
+added_more files f part old new is units locks count counted added = record {
+  put = rw (units, locks, count) (one_more_part files old.units.items old.locks.items old.count f part added.put is);
+  counted = omega (arith, counted, added.counted, length-append files (f ∷ []));
+}

@@ -1,12 +1,12 @@
 //! How many findings classes have, counted without making them.
 
-ghost use Rattle.std.specs.Prelude.{◌≡◌, ℕ, ◌-◌, ◌^◌, ◌≤◌, length, min};
+ghost use Rattle.std.specs.Prelude.{◌≡◌, ℕ, ◌-◌, ◌^◌, ◌≤◌, ◌∷◌, [], length, min};
 ghost use Rattle.std.specs.List.{sum_by};
 ghost use Rattle.java_tree.specs.declared.expr.Expr.{out-Expr};
 ghost use Rattle.java_tree.specs.declared.stmt.BlockItem.{out-BlockItem};
 ghost use Rattle.first_judge.specs.Accesses.{name_of, value_reads, target_uses, action_uses, item_uses};
 ghost use Rattle.first_judge.specs.Counts.{item_count, member_count, class_count, finding_count};
-ghost use Rattle.first_judge.specs.Parts.{class_texts};
+ghost use Rattle.first_judge.specs.Parts.{class_text};
 
 use crate::accesses::name_of;
 use crate::judging::has_lock;
@@ -96,13 +96,10 @@ fn class_count(class: &ClassTree) -> u64
     }
 }
 
-/// How many findings the answers on files have, or 2^64 - 1 where there are more. It takes no memory.
-pub fn count_findings(files: &[ClassFile<'_>]) -> u64
-    ensures { result ≡ min (finding_count (class_texts files.now)) (2 ^ 64 - 1) }
+/// How many findings the answers on a file have, or 2^64 - 1 where there are more. It takes no memory.
+#[tactic(auto, using(crate::proofs::CountMore::count_one))]
+pub fn count_findings(file: ClassFile<'_>) -> u64
+    ensures { result ≡ min (finding_count (class_text file.entry ∷ [])) (2 ^ 64 - 1) }
 {
-    let mut count = 0u64;
-    for file in files {
-        count = count.saturating_add(class_count(file.class));
-    }
-    count
+    class_count(file.class)
 }

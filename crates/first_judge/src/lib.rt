@@ -14,5 +14,5 @@ mod tests;
 pub use accesses::Access;
 pub use counting::count_findings;
 pub use lines::LineCursor;
-pub use project::{ClassFile, judge_files};
+pub use project::{ClassFile, Parts};
 pub use rows::UnitRows;

@@ -1,12 +1,12 @@
-//! Several files together: what each class says, put in order.
+//! Several files together, one after another: what each class says, put in order.
 
-ghost use Rattle.std.specs.Prelude.{◌≡◌, ◌+◌, ◌++◌, All, find, length, IfOk, OnOk};
+ghost use Rattle.std.specs.Prelude.{◌≡◌, ◌+◌, ◌++◌, ◌∷◌, [], List, find, length, IfOk, OnOk};
 ghost use Rattle.std.specs.Option.{option_copied, option_to_list};
 ghost use Rattle.std.specs.Str.{IsAscii};
 ghost use Rattle.java_tree.specs.Names.{AsciiNames};
 ghost use Rattle.first_judge.specs.Findings.{lock_row, rows_of};
-ghost use Rattle.first_judge.specs.Project.{IsPartOf, LocksInOrder, AreAnswersOn, ArePut};
-ghost use Rattle.first_judge.specs.Parts.{class_text, class_texts, part_seen};
+ghost use Rattle.first_judge.specs.Project.{ClassText, IsPartOf, LocksInOrder, AreAnswersOn};
+ghost use Rattle.first_judge.specs.Parts.{class_text, part_seen, AreAdded};
 
 use crate::judging::{all_rows, count_units, has_lock, program_row, sort_units, written_units};
 use crate::rows::{ClassFacts, UnitRows, lock_key};
@@ -30,12 +30,13 @@ struct ClassPart {
     lock: Option<VerdictRow>,
 }
 
-// What the classes so far add to the answers.
+/// What classes add to the answers, one after another. It keeps nothing of their trees.
 #[derive(Drop)]
-struct Parts {
+pub struct Parts {
     units: Vec<UnitRows>,
     locks: Vec<VerdictRow>,
     count: u32,
+    files: u32,
 }
 
 // The first finding of a unit that fails.
@@ -102,39 +103,6 @@ fn part_of(alloc: Global, file: ClassFile<'_>) -> Result<ClassPart, OutOfMemory>
     })
 }
 
-// Adds what one more class says.
-fn put(parts: &mut Parts, class: &ClassTree, part: ClassPart) -> Result<(), OutOfMemory>
-    ensures units { OnOk result (parts.new.units.items ≡ parts.old.units.items ++ part.units.items) }
-    ensures locks { OnOk result (parts.new.locks.items ≡ parts.old.locks.items ++ option_to_list part.lock) }
-    ensures count { OnOk result (parts.new.count ≡ parts.old.count + (1 + length class.now.members)) }
-{
-    let count = count_units(class)?;
-    let ClassPart { mut units, lock } = part;
-    parts.units.append(&mut units)?;
-    if let Some(row) = lock {
-        parts.locks.push(row)?;
-    }
-    parts.count = parts.count.checked_add(count).ok_or(OutOfMemory)?;
-    Ok(())
-}
-
-// What the classes of files add to the answers, one after another.
-fn parts_of(alloc: Global, files: &[ClassFile<'_>]) -> Result<Parts, OutOfMemory>
-    requires { All (λ f. AsciiNames f.class.now) files.now }
-    ensures { IfOk result (λ parts. ArePut (class_texts files.now) parts.units.items parts.locks.items parts.count) }
-{
-    let mut parts = Parts {
-        units: Vec::new(alloc),
-        locks: Vec::new(alloc),
-        count: 0,
-    };
-    for file in files {
-        let part = part_of(alloc, *file)?;
-        put(&mut parts, file.class, part)?;
-    }
-    Ok(parts)
-}
-
 // Puts lock promises in the order of their classes.
 fn sort_locks(locks: &mut Vec<VerdictRow>)
     ensures { LocksInOrder locks.old.items locks.new.items }
@@ -142,29 +110,71 @@ fn sort_locks(locks: &mut Vec<VerdictRow>)
     locks.sort_unstable_by(|a, b| a.key.target.cmp(&b.key.target));
 }
 
-/// The answers on files, each with one class, whose classes have names of their own and whose only
-/// promises are that the lock `this` guards all fields of its class: a finding for each read and
-/// write of a field, by unit and place, and a verdict for each promise, by class.
-pub fn judge_files(alloc: Global, files: &[ClassFile<'_>]) -> Result<Answers, OutOfMemory>
-    requires { All (λ f. AsciiNames f.class.now) files.now }
-    ensures { IfOk result (AreAnswersOn (class_texts files.now)) }
-{
-    let count = u32::try_from(files.len()).map_err(|_| OutOfMemory)?;
-    let Parts {
-        mut units,
-        mut locks,
-        count: unit_count,
-    } = parts_of(alloc, files)?;
-    sort_units(&mut units);
-    sort_locks(&mut locks);
-    let mut verdicts = Items::new(alloc);
-    verdicts.push(program_row(alloc))?;
-    verdicts.append(Items::from_vec(locks))?;
-    Ok(Answers {
-        files: count,
-        types: count,
-        units: unit_count,
-        findings: all_rows(alloc, units)?,
-        verdicts,
-    })
+impl Parts {
+    /// Of no class.
+    #[tactic(auto, using(crate::proofs::PartSteps::none_added))]
+    pub fn new(alloc: Global) -> Parts
+        ensures { AreAdded [] result }
+    {
+        Parts {
+            units: Vec::new(alloc),
+            locks: Vec::new(alloc),
+            count: 0,
+            files: 0,
+        }
+    }
+
+    // Puts what one more class says.
+    fn put(&mut self, class: &ClassTree, part: ClassPart) -> Result<(), OutOfMemory>
+        ensures units { OnOk result (self.new.units.items ≡ self.old.units.items ++ part.units.items) }
+        ensures locks { OnOk result (self.new.locks.items ≡ self.old.locks.items ++ option_to_list part.lock) }
+        ensures count { OnOk result (self.new.count ≡ self.old.count + (1 + length class.now.members)) }
+        ensures files { OnOk result (self.new.files ≡ self.old.files + 1) }
+    {
+        let count = count_units(class)?;
+        let ClassPart { mut units, lock } = part;
+        self.units.append(&mut units)?;
+        if let Some(row) = lock {
+            self.locks.push(row)?;
+        }
+        self.count = self.count.checked_add(count).ok_or(OutOfMemory)?;
+        self.files = self.files.checked_add(1).ok_or(OutOfMemory)?;
+        Ok(())
+    }
+
+    /// Adds what one more class says: a finding for each read and write of a field, and a verdict on
+    /// its promise, where it makes one, that the lock `this` guards all of its fields.
+    pub fn add(&mut self, alloc: Global, file: ClassFile<'_>) -> Result<(), OutOfMemory>
+        requires { AsciiNames file.class.now }
+        ensures { OnOk result ((files : List ClassText) → AreAdded files self.old → AreAdded (files ++ class_text file.entry ∷ []) self.new) }
+    {
+        let part = part_of(alloc, file)?;
+        self.put(file.class, part)?;
+        Ok(())
+    }
+
+    /// The answers on the files that were added, each with one class, whose classes have names of
+    /// their own: the findings by unit and place, and the verdicts by class.
+    pub fn finish(self, alloc: Global) -> Result<Answers, OutOfMemory>
+        ensures { (files : List ClassText) → AreAdded files self → IfOk result (AreAnswersOn files) }
+    {
+        let Parts {
+            mut units,
+            mut locks,
+            count,
+            files,
+        } = self;
+        sort_units(&mut units);
+        sort_locks(&mut locks);
+        let mut verdicts = Items::new(alloc);
+        verdicts.push(program_row(alloc))?;
+        verdicts.append(Items::from_vec(locks))?;
+        Ok(Answers {
+            files,
+            types: files,
+            units: count,
+            findings: all_rows(alloc, units)?,
+            verdicts,
+        })
+    }
 }

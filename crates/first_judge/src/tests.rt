@@ -2,7 +2,7 @@ ghost use Rattle.std.specs.Prelude.{IfOk};
 ghost use Rattle.std.specs.Str.{IsAscii};
 ghost use Rattle.java_tree.specs.Names.{AsciiNames};
 
-use crate::{ClassFile, judge_files};
+use crate::{ClassFile, Parts};
 use desk_base::{Items, Name, OutOfMemory, Span};
 use java_tree::{Annot, ClassTree, Elements, Mod, TypeKind, Word};
 use report::report_text;
@@ -40,19 +40,25 @@ fn judges_two_files(rt: HostRuntime) -> Result<(), Fail> {
     let alloc = rt.alloc();
     let second = locked_class(alloc, b"B")?;
     let first = locked_class(alloc, b"A")?;
-    let files = [
+    let mut parts = Parts::new(alloc);
+    let (b, a) = (b"B.java".as_slice(), b"A.java".as_slice());
+    parts.add(
+        alloc,
         ClassFile {
-            path: b"B.java".as_slice(),
+            path: b,
             text: b"".as_slice(),
             class: &second,
         },
+    )?;
+    parts.add(
+        alloc,
         ClassFile {
-            path: b"A.java".as_slice(),
+            path: a,
             text: b"".as_slice(),
             class: &first,
         },
-    ];
-    let report = report_text(alloc, &judge_files(alloc, &files)?)?;
+    )?;
+    let report = report_text(alloc, &parts.finish(alloc)?)?;
     let wanted =
         "report 1\nfiles 2\ntypes 2\nprogram firm\npromises 2 firm 2 contingent 0 inconsistent 0\nfindings 0 failing 0\nfirm A RegionLock L\nfirm B RegionLock L\nend\n";
     assert!(rt; report.as_slice() == wanted.as_bytes());

@@ -1,7 +1,7 @@
 pub mod LimitMore
 pub mod Lists
 pub mod RepeatMore
-pub mod AsciiTypes
-pub mod Causes
+pub mod TallyMore
+pub mod KnownMore
 pub mod OneAnswer
 pub mod Refused

@@ -5,9 +5,7 @@ use Rattle.std.specs.Result.{IsErrAnd}
 use Rattle.std.proofs.lemmas.List.{get_or_default}
 use Rattle.bundle.specs.File.{file_of}
 use Rattle.bundle.specs.declared.entry.FileEntry.{FileEntry}
-use Rattle.first_project.specs.declared.reading.ReadFile.{ReadFile}
 use Rattle.first_project.proofs.Lists.{map_split}
-use Rattle.first_project.proofs.Causes.{entries}
 use Rattle.bundle.specs.Entry.{Entry}
 use Rattle.java_tree.specs.declared.file.FileTree.{FileTree}
 use Rattle.java_reader.specs.declared.error.ReadError.{ReadError}
@@ -16,7 +14,7 @@ use Rattle.java_reader.specs.Reads.{Reads, IsCauseOf}
 use Rattle.first_project.specs.declared.error.ProjectError.{ProjectError}
 use Rattle.first_project.specs.declared.error.ProjectError.TheVariants as error
 use Rattle.first_project.specs.Trees.{TreeFile, IsReadAs, IsRefused, entry_of}
-use Rattle.first_project.specs.Kept.{files_of, tree_files, refusal_for, IsRefusal, IsRefusalIn}
+use Rattle.first_project.specs.Kept.{files_of, refusal_for, IsRefusal, IsRefusalIn}
 
 refused : (text : List ℕ) (why : ReadError) → ((tree : FileTree) → Reads text tree → why ≡ fault.OutOfMemory) → IsCauseOf text why → why ≢ fault.OutOfMemory → IsRefused text why
 refused text why only cause told = record { unread = λ tree reads. told (only tree reads); cause = cause; told = told }
@@ -35,13 +33,13 @@ refusal_in sorted front file rest (error.Unfit path) is each refusal = absurd re
 refusal_in sorted front file rest error.OutOfMemory is each refusal = tt
 
 -- the file that isn't read, behind those that were
-pub refused_at : (sorted : List FileEntry) (read : List ReadFile) (i : ℕ) (d : FileEntry) (e : ProjectError) → i < length sorted → map (λ (r : ReadFile). r.file) read ≡ take i sorted → All IsReadAs (tree_files read)
+pub refused_at : (sorted : List FileEntry) (front : List TreeFile) (i : ℕ) (d : FileEntry) (e : ProjectError) → i < length sorted → map entry_of front ≡ files_of (take i sorted) → All IsReadAs front
     → IsRefusal (file_of (get_or sorted i d)) e → IsRefusalIn (files_of sorted) e
-refused_at sorted read i d e low same each refusal =
+refused_at sorted front i d e low same each refusal =
     let file = get_or sorted i d in
-    let split : files_of sorted ≡ files_of (take i sorted) ++ file_of file ∷ files_of (drop (i + 1) sorted) = map_split file_of sorted i file low (get_or_default sorted i d file low) in
-    let front : map entry_of (tree_files read) ≡ files_of (take i sorted) = entries read ∙ ap files_of same in
-    refusal_in (files_of sorted) (tree_files read) (file_of file) (files_of (drop (i + 1) sorted)) e (split ∙ ap (λ l. l ++ file_of file ∷ files_of (drop (i + 1) sorted)) (sym front)) each refusal
+    let rest = files_of (drop (i + 1) sorted) in
+    let split : files_of sorted ≡ files_of (take i sorted) ++ file_of file ∷ rest = map_split file_of sorted i file low (get_or_default sorted i d file low) in
+    refusal_in (files_of sorted) front (file_of file) rest e (split ∙ ap (λ l. l ++ file_of file ∷ rest) (sym same)) each refusal
 
 pub err_along : {A E : Type 0} (r : Result A E) (e : E) (P : E → Type 0) → IsErrAnd r (λ x. x ≡ e) → P e → IfErr r P
 err_along (Ok x) e P h p = tt

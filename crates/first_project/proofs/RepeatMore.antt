@@ -1,5 +1,6 @@
 -- One more type: whether its name is used before.
-use Rattle.std.proofs.Common.{◌≡◌, ◌≢◌, ◌<◌, length, get_or, arith, ℕ, Bool, true, false, List, [], ◌∷◌, ◌++◌, Option, Some, None, cond, map, AllPairs, ◌⊎◌, inl, inr, refl, ap, sym, ◌∙◌, subst}
+use Rattle.std.proofs.Common.{◌≡◌, ◌≢◌, ◌<◌, length, get_or, arith, ℕ, Bool, true, false, List, [], ◌∷◌, ◌++◌, Option, Some, None, cond, map, AllPairs, ◌⊎◌, inl, inr, refl, ap, sym, ◌∙◌, subst, append_assoc}
+use Rattle.std.specs.Prelude.{is_some}
 use Rattle.std.specs.Option.{MatchOption}
 use Rattle.std.specs.Borrow.{Bor}
 use Rattle.std.specs.List.{Contains}
@@ -12,15 +13,16 @@ use Rattle.std.proofs.lemmas.List.Elements.{Contains-get_or, Contains-push, Cont
 use Rattle.std.proofs.lemmas.List.Quantifiers.{all_pairs_push}
 use Rattle.std.proofs.lemmas.Slice.Eq.{bytes_eq-Decides}
 use Rattle.first_judge.specs.Project.{ClassText}
-use Rattle.first_project.specs.Repeats.{NoRepeat, name_of}
-use Rattle.first_project.specs.Kept.{key_cmp, IsNamed, ArePaths}
+use Rattle.first_project.specs.declared.repeats.Repeat.{Repeat}
+use Rattle.first_project.specs.Repeats.{NoRepeat, FirstRepeat, name_of}
+use Rattle.first_project.specs.Kept.{IsNamed, ArePaths, NamedBy}
 
 same_by : (p q : List ℕ) → is_eq (slice_cmp nat_cmp p q) ≡ true → p ≡ q
 same_by p q e = (bytes_eq-Decides p q).0 (sym (is_eq-slice_cmp p q) ∙ e)
 
 -- ---- one more type
 
-pub apart_more : (types : List ClassText) (c : ClassText) → NoRepeat types → ((d : ClassText) → Contains types d → name_of d ≡ name_of c → ⊥) → NoRepeat (types ++ c ∷ [])
+apart_more : (types : List ClassText) (c : ClassText) → NoRepeat types → ((d : ClassText) → Contains types d → name_of d ≡ name_of c → ⊥) → NoRepeat (types ++ c ∷ [])
 apart_more types c apart none =
     subst (AllPairs ◌≢◌) (sym (map-append name_of types (c ∷ []))) (all_pairs_push ◌≢◌ (map name_of types) (name_of c) apart (λ k d low same. other k d (omega (arith, low, length-map types name_of)) same))
   where
@@ -40,24 +42,74 @@ none_more types c name none other d (inr same) named = other (ap name_of same �
 
 -- ---- the map
 
-abbrev pub NamedAt : List ClassText → List ℕ → Option (Bor (List ℕ)) → Type 0
+abbrev NamedAt : List ClassText → List ℕ → Option (Bor (List ℕ)) → Type 0
 NamedAt types name o = MatchOption o ((c : ClassText) → Contains types c → name_of c ≡ name → ⊥) (λ p. IsNamed types name p.now)
 
-pub got : (types : List ClassText) (m : BTreeMap (Bor (List ℕ)) (Bor (List ℕ))) (q : Bor (List ℕ)) (o : Option (Bor (List ℕ))) → ArePaths types m → get key_cmp m q ≡ o → NamedAt types q.now o
-got types m q o known e = subst (NamedAt types q.now) e (known q)
+got : (types : List ClassText) (m : BTreeMap (List ℕ) (Bor (List ℕ))) (q : List ℕ) (o : Option (Bor (List ℕ))) → ArePaths types m → get (slice_cmp nat_cmp) m q ≡ o → NamedAt types q o
+got types m q o known e = subst (NamedAt types q) e (known q)
 
 kept_at : (types : List ClassText) (c : ClassText) (name : List ℕ) (o : Option (Bor (List ℕ))) → (name_of c ≡ name → ⊥) → NamedAt types name o → NamedAt (types ++ c ∷ []) name o
 kept_at types c name None other none = λ d there named. none_more types c name none other d (Contains-push_cases types c d there) named
 kept_at types c name (Some p) other n = named_kept types c name p.now n
 
-put_by : (types : List ClassText) (c : ClassText) (key q path : Bor (List ℕ)) (o : Option (Bor (List ℕ))) (b : Bool) → is_eq (key_cmp key q) ≡ b → key.now ≡ name_of c → path.now ≡ c.path
-    → NamedAt types q.now o → NamedAt (types ++ c ∷ []) q.now (cond b (Some path) o)
-put_by types c key q path o true is named placed old = named_new types c q.now path.now (sym (same_by key.now q.now is) ∙ named) placed
+put_by : (types : List ClassText) (c : ClassText) (key q : List ℕ) (path : Bor (List ℕ)) (o : Option (Bor (List ℕ))) (b : Bool) → is_eq (slice_cmp nat_cmp key q) ≡ b → key ≡ name_of c → path.now ≡ c.path
+    → NamedAt types q o → NamedAt (types ++ c ∷ []) q (cond b (Some path) o)
+put_by types c key q path o true is named placed old = named_new types c q path.now (sym (same_by key q is) ∙ named) placed
 put_by types c key q path o false is named placed old =
-    kept_at types c q.now o (λ same. let whole : key.now ≡ q.now = named ∙ same in
-    let on : is_eq (slice_cmp nat_cmp key.now q.now) ≡ true = is_eq-slice_cmp key.now q.now ∙ (bytes_eq-Decides key.now q.now).1 whole in cc) old
+    kept_at types c q o (λ same. let whole : key ≡ q = named ∙ same in
+    let on : is_eq (slice_cmp nat_cmp key q) ≡ true = is_eq-slice_cmp key q ∙ (bytes_eq-Decides key q).1 whole in cc) old
 
-pub paths_put : (types : List ClassText) (c : ClassText) (m n : BTreeMap (Bor (List ℕ)) (Bor (List ℕ))) (key path : Bor (List ℕ)) → key.now ≡ name_of c → path.now ≡ c.path
-    → Updates key_cmp m n key (Some path) → ArePaths types m → ArePaths (types ++ c ∷ []) n
+paths_put : (types : List ClassText) (c : ClassText) (m n : BTreeMap (List ℕ) (Bor (List ℕ))) (key : List ℕ) (path : Bor (List ℕ)) → key ≡ name_of c → path.now ≡ c.path
+    → Updates (slice_cmp nat_cmp) m n key (Some path) → ArePaths types m → ArePaths (types ++ c ∷ []) n
 paths_put types c m n key path named placed updates old q =
-    subst (NamedAt (types ++ c ∷ []) q.now) (sym (updates.0 q)) (put_by types c key q path (get key_cmp m q) (is_eq (key_cmp key q)) refl named placed (old q))
+    subst (NamedAt (types ++ c ∷ []) q) (sym (updates.0 q)) (put_by types c key q path (get (slice_cmp nat_cmp) m q) (is_eq (slice_cmp nat_cmp key q)) refl named placed (old q))
+
+-- ---- the names so far
+
+without : (types : List ClassText) (m : BTreeMap (List ℕ) (Bor (List ℕ))) (o : Option Repeat) → is_some o ≡ false → NamedBy types m o → NamedBy types m None
+without types m None is named = named
+without types m (Some r) is named = cc
+
+-- a repeat stays the first
+pub names_stay : (types : List ClassText) (c : ClassText) (m : BTreeMap (List ℕ) (Bor (List ℕ))) (o : Option Repeat) → is_some o ≡ true → NamedBy types m o → NamedBy (types ++ c ∷ []) m o
+names_stay types c m None is named = cc
+names_stay types c m (Some r) is named = record {
+  front = named.front;
+  type = named.type;
+  rest = named.rest ++ c ∷ [];
+  is = ap (λ l. l ++ c ∷ []) named.is ∙ append_assoc named.front (named.type ∷ named.rest) (c ∷ []);
+  apart = named.apart;
+  earlier = named.earlier;
+  among = named.among;
+  same = named.same;
+  named = named.named;
+  first_path = named.first_path;
+  second_path = named.second_path;
+}
+
+-- a name of its own
+pub names_more : (types : List ClassText) (c : ClassText) (m n : BTreeMap (List ℕ) (Bor (List ℕ))) (o : Option Repeat) (key : List ℕ) (path : Bor (List ℕ)) → is_some o ≡ false → key ≡ name_of c → path.now ≡ c.path
+    → Updates (slice_cmp nat_cmp) m n key (Some path) → get (slice_cmp nat_cmp) m key ≡ None → NamedBy types m o → NamedBy (types ++ c ∷ []) n o
+names_more types c m n (Some r) key path is named placed updates new so = cc
+names_more types c m n None key path is named placed updates new so =
+    (apart_more types c so.0 (λ d among same. got types m key None so.1 new d among (same ∙ sym named)), paths_put types c m n key path named placed updates so.1)
+
+-- the first repeat
+pub names_repeat : (types : List ClassText) (c : ClassText) (m : BTreeMap (List ℕ) (Bor (List ℕ))) (o : Option Repeat) (key : List ℕ) (first : Bor (List ℕ)) (r : Repeat) → is_some o ≡ false → key ≡ name_of c
+    → get (slice_cmp nat_cmp) m key ≡ Some first → r.name ≡ name_of c → r.first.now ≡ first.now → r.second.now ≡ c.path → NamedBy types m o → FirstRepeat (types ++ c ∷ []) r.name r.first.now r.second.now
+names_repeat types c m o key first r is named old name one two so =
+    let here = without types m o is so in
+    let n = got types m key (Some first) here.1 old in
+    record {
+      front = types;
+      type = c;
+      rest = [];
+      is = refl;
+      apart = here.0;
+      earlier = n.type;
+      among = n.among;
+      same = n.named ∙ named;
+      named = name;
+      first_path = one ∙ n.placed;
+      second_path = two;
+    }

@@ -1,31 +1,37 @@
 -- Files that were read, as the code keeps them.
-use Rattle.std.specs.Prelude.{◌≡◌, ℕ, List, map, MatchOption}
+use Rattle.std.specs.Prelude.{◌≡◌, ℕ, ◌-◌, ◌^◌, ◌≤◌, min, List, Option, Some, None, map, MatchOption, All}
 use Rattle.std.specs.Borrow.{Bor}
 use Rattle.std.specs.List.{Contains}
 use Rattle.std.specs.Ordering.{nat_cmp}
-use Rattle.std.specs.declared.cmp.Ordering.{Ordering}
 use Rattle.std.specs.Cmp.Lexicographic.{slice_cmp}
 use Rattle.std.specs.BTreeMap.{BTreeMap, get}
+use Rattle.desk_base.specs.Limit.{limit_max}
+use Rattle.desk_base.specs.declared.limit.LimitName.TheVariants as limit
 use Rattle.bundle.specs.Entry.{Entry}
 use Rattle.bundle.specs.File.{file_of}
 use Rattle.bundle.specs.declared.entry.FileEntry.{FileEntry}
-use Rattle.first_judge.specs.Project.{ClassText}
+use Rattle.java_tree.specs.declared.file.ClassTree.{ClassTree}
 use Rattle.java_reader.specs.declared.error.ReadError.{ReadError}
 use Rattle.java_reader.specs.declared.error.ReadError.TheVariants as fault
+use Rattle.first_judge.specs.Project.{ClassText}
+use Rattle.first_judge.specs.Counts.{finding_count}
+use Rattle.first_judge.specs.Parts.{AreAdded}
 use Rattle.first_project.specs.declared.reading.ReadFile.{ReadFile}
+use Rattle.first_project.specs.declared.repeats.Repeat.{Repeat}
+use Rattle.first_project.specs.declared.repeats.TypeNames.{TypeNames}
+use Rattle.first_project.specs.declared.tally.Tally.{Tally}
+use Rattle.first_project.specs.declared.progress.Progress.{Progress}
 use Rattle.first_project.specs.declared.error.ProjectError.{ProjectError}
 use Rattle.first_project.specs.declared.error.ProjectError.TheVariants as error
-use Rattle.first_project.specs.Trees.{TreeFile, IsRefused, FirstRefused}
-use Rattle.first_project.specs.Repeats.{name_of}
+use Rattle.first_project.specs.Trees.{TreeFile, IsReadAs, IsRefused, FirstRefused, entry_of, types_of}
+use Rattle.first_project.specs.Repeats.{NoRepeat, FirstRepeat, name_of}
+use Rattle.first_project.specs.Form.{IsFit, FirstUnfit}
 
 abbrev pub files_of : List FileEntry → List Entry
 files_of files = map file_of files
 
 abbrev pub tree_file : ReadFile → TreeFile
 tree_file r = record { path = r.file.path.now; text = r.file.text.now; tree = r.tree }
-
-abbrev pub tree_files : List ReadFile → List TreeFile
-tree_files read = map tree_file read
 
 -- what is said of a file that isn't read
 abbrev pub refusal_for : Bor (List ℕ) → ReadError → ProjectError
@@ -44,10 +50,11 @@ IsRefusalIn sorted (error.Unread path why) = FirstRefused sorted path.now why
 IsRefusalIn sorted error.OutOfMemory = Unit {0}
 IsRefusalIn sorted _ = ⊥
 
--- ---- the file of a type of each name, as a map
+-- a type of a file
+abbrev pub class_of : FileEntry → ClassTree → ClassText
+class_of f class = record { path = f.path.now; text = f.text.now; class = class }
 
-abbrev pub key_cmp : Bor (List ℕ) → Bor (List ℕ) → Ordering
-key_cmp p q = slice_cmp nat_cmp p.now q.now
+-- ---- the file of a type of each name, as a map
 
 -- a type with this name and path
 pub record IsNamed (types : List ClassText) (name path : List ℕ) : Type 0 where
@@ -56,5 +63,38 @@ pub record IsNamed (types : List ClassText) (name path : List ℕ) : Type 0 wher
   pub named : name_of type ≡ name
   pub placed : path ≡ type.path
 
-abbrev pub ArePaths : List ClassText → BTreeMap (Bor (List ℕ)) (Bor (List ℕ)) → Type 0
-ArePaths types m = (q : Bor (List ℕ)) → MatchOption (get key_cmp m q) ((c : ClassText) → Contains types c → name_of c ≡ q.now → ⊥) (λ p. IsNamed types q.now p.now)
+abbrev pub ArePaths : List ClassText → BTreeMap (List ℕ) (Bor (List ℕ)) → Type 0
+ArePaths types m = (q : List ℕ) → MatchOption (get (slice_cmp nat_cmp) m q) ((c : ClassText) → Contains types c → name_of c ≡ q → ⊥) (λ p. IsNamed types q p.now)
+
+-- ---- what is known of files so far
+
+-- all types have names of their own, and these are the paths of their files; or this is the first repeat
+abbrev pub NamedBy : List ClassText → BTreeMap (List ℕ) (Bor (List ℕ)) → Option Repeat → Type 0
+NamedBy types paths None = NoRepeat types × ArePaths types paths
+NamedBy types paths (Some r) = FirstRepeat types r.name r.first.now r.second.now
+
+abbrev pub AreNamed : List ClassText → TypeNames → Type 0
+AreNamed types names = NamedBy types names.paths names.repeat
+
+-- all files are of the form, or this is the path of the first that isn't
+abbrev pub UnfitOf : List TreeFile → Option (Bor (List ℕ)) → Type 0
+UnfitOf trees None = All IsFit trees
+UnfitOf trees (Some path) = FirstUnfit trees path.now
+
+-- so many findings, and, where they are few enough, what the types add to the answers
+pub record AreCounted (types : List ClassText) (tally : Tally) : Type 0 where
+  pub count : tally.count ≡ min (finding_count types) (2 ^ 64 - 1)
+  pub added : finding_count types ≤ limit_max limit.Findings → AreAdded types tally.parts
+
+-- Findings are counted as long as nothing else stands in the way.
+pub record IsKnown (trees : List TreeFile) (p : Progress) : Type 0 where
+  pub named : AreNamed (types_of trees) p.names
+  pub form : UnfitOf trees p.unfit
+  pub counted : p.names.repeat ≡ None → p.unfit ≡ None → AreCounted (types_of trees) p.tally
+
+-- the files are read as trees of which this is known
+pub record AreKnown (files : List Entry) (p : Progress) : Type 0 where
+  pub trees : List TreeFile
+  pub same : map entry_of trees ≡ files
+  pub each : All IsReadAs trees
+  pub known : IsKnown trees p

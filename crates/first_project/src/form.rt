@@ -1,6 +1,7 @@
-ghost use Rattle.std.specs.Prelude.{◌↔◌, All, IsTrue, IfOk, MatchOption};
-ghost use Rattle.first_project.specs.Form.{IsFit, FirstUnfit};
-ghost use Rattle.first_project.specs.Kept.{tree_file, tree_files};
+ghost use Rattle.std.specs.Prelude.{◌≡◌, ◌↔◌, ◌++◌, ◌∷◌, [], List, None, IsTrue, IfOk};
+ghost use Rattle.first_project.specs.Form.{IsFit};
+ghost use Rattle.first_project.specs.Trees.{TreeFile};
+ghost use Rattle.first_project.specs.Kept.{tree_file, UnfitOf};
 
 use crate::reading::ReadFile;
 use desk_base::OutOfMemory;
@@ -19,17 +20,24 @@ fn is_fit(alloc: Global, read: &ReadFile<'_>) -> Result<bool, OutOfMemory>
     Ok(is_first_form(alloc, &read.tree)?)
 }
 
-/// The path of the first file that isn't of the first form.
-pub fn first_unfit<'a>(
+/// The path of the first file that isn't of the first form, of files of which one more was read.
+pub fn unfit_with<'a>(
     alloc: Global,
-    read: &[ReadFile<'a>],
+    before: Option<&'a [u8]>,
+    read: &ReadFile<'a>,
 ) -> Result<Option<&'a [u8]>, OutOfMemory>
-    ensures { IfOk result (λ found. MatchOption found (All IsFit (tree_files read.now)) (λ path. FirstUnfit (tree_files read.now) path.now)) }
+    ensures unfit { IfOk result (λ after. (trees : List TreeFile) → UnfitOf trees before.entry → UnfitOf (trees ++ tree_file read.now ∷ []) after) }
+    ensures none { IfOk result (λ after. after ≡ None → before.entry ≡ None) }
+    ensures fit { IfOk result (λ after. after ≡ None → IsFit (tree_file read.now)) }
 {
-    for file in read {
-        if !is_fit(alloc, file)? {
-            return Ok(Some(file.file.path));
+    match before {
+        Some(path) => Ok(Some(path)),
+        None => {
+            if is_fit(alloc, read)? {
+                Ok(None)
+            } else {
+                Ok(Some(read.file.path))
+            }
         }
     }
-    Ok(None)
 }

@@ -1,39 +1,83 @@
-ghost use Rattle.std.specs.Prelude.{IfOk, MatchOption};
-ghost use Rattle.first_judge.specs.Parts.{class_texts};
-ghost use Rattle.first_project.specs.Repeats.{FirstRepeat, NoRepeat};
+ghost use Rattle.std.specs.Prelude.{◌≡◌, ◌++◌, ◌∷◌, [], List, None, OnOk, is_some, map};
+ghost use Rattle.first_judge.specs.Project.{ClassText};
+ghost use Rattle.first_project.specs.Trees.{class_in};
+ghost use Rattle.first_project.specs.Kept.{tree_file, class_of, AreNamed};
 
-use desk_base::OutOfMemory;
-use first_judge::ClassFile;
+use crate::reading::ReadFile;
+use bundle::FileEntry;
+use desk_base::{Name, OutOfMemory};
+use java_tree::ClassTree;
 use std::alloc::Global;
 use std::collections::BTreeMap;
 
 /// A type whose name is used before: its name, the path of the type before it with the name, and its own
 /// path.
-#[derive(Clone, Copy)]
+#[derive(Drop)]
 pub struct Repeat<'a> {
-    pub name: &'a [u8],
+    pub name: Name,
     pub first: &'a [u8],
     pub second: &'a [u8],
 }
 
-/// The first type whose name is used before.
-pub fn first_repeat<'a>(
-    alloc: Global,
-    types: &[ClassFile<'a>],
-) -> Result<Option<Repeat<'a>>, OutOfMemory>
-    ensures { IfOk result (λ found. MatchOption found (NoRepeat (class_texts types.now)) (λ r. FirstRepeat (class_texts types.now) r.name.now r.first.now r.second.now)) }
-{
-    let mut paths: BTreeMap<&'a [u8], &'a [u8]> = BTreeMap::new(alloc);
-    for class in types {
-        let name = class.class.name.name.as_slice();
-        if let Some(first) = paths.insert(name, class.path)? {
-            let second = class.path;
-            return Ok(Some(Repeat {
-                name,
-                first,
-                second,
-            }));
+/// The names of types, each with the path of its file, up to the first whose name is used before.
+#[derive(Drop)]
+pub struct TypeNames<'a> {
+    paths: BTreeMap<Name, &'a [u8]>,
+    repeat: Option<Repeat<'a>>,
+}
+
+impl<'a> TypeNames<'a> {
+    /// Of no type.
+    pub fn new(alloc: Global) -> TypeNames<'a>
+        ensures { AreNamed [] result }
+    {
+        TypeNames {
+            paths: BTreeMap::new(alloc),
+            repeat: None,
         }
     }
-    Ok(None)
+
+    // Adds the name of a type.
+    fn add(&mut self, file: FileEntry<'a>, class: &ClassTree) -> Result<(), OutOfMemory>
+        ensures named { OnOk result ((types : List ClassText) → AreNamed types self.old → AreNamed (types ++ class_of file.entry class.now ∷ []) self.new) }
+        ensures none { OnOk result (self.new.repeat ≡ None → self.old.repeat ≡ None) }
+    {
+        if self.repeat.is_some() {
+            return Ok(());
+        }
+        let name = class.name.name.clone()?;
+        if let Some(first) = self.paths.insert(name, file.path)? {
+            self.repeat = Some(Repeat {
+                name: class.name.name.clone()?,
+                first,
+                second: file.path,
+            });
+        }
+        Ok(())
+    }
+
+    /// Adds the names of a file's types.
+    pub fn add_types(&mut self, read: &ReadFile<'a>) -> Result<(), OutOfMemory>
+        ensures named { OnOk result ((types : List ClassText) → AreNamed types self.old → AreNamed (types ++ map (class_in (tree_file read.now)) read.now.tree.types) self.new) }
+        ensures none { OnOk result (self.new.repeat ≡ None → self.old.repeat ≡ None) }
+    {
+        for class in read.tree.types.as_slice() {
+            self.add(read.file, class)?;
+        }
+        Ok(())
+    }
+
+    /// Whether a name is used before.
+    pub fn has_repeat(&self) -> bool
+        ensures { result ≡ is_some self.now.repeat }
+    {
+        self.repeat.is_some()
+    }
+
+    /// The first type whose name is used before.
+    pub fn into_repeat(self) -> Option<Repeat<'a>>
+        ensures { result ≡ self.entry.repeat }
+    {
+        self.repeat
+    }
 }
