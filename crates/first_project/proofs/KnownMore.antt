@@ -1,19 +1,17 @@
 -- What is known of files, and of one more.
-use Rattle.std.proofs.Common.{◌≡◌, List, [], ◌∷◌, ◌++◌, Option, None, map, ap, ◌∙◌, subst}
+use Rattle.std.proofs.Common.{◌≡◌, List, [], ◌∷◌, ◌++◌, None, map, ap, ◌∙◌, subst}
 use Rattle.std.proofs.lemmas.List.{flat_map_more, map-append}
 use Rattle.std.proofs.lemmas.List.Elements.{All-push}
 use Rattle.bundle.specs.Entry.{Entry}
 use Rattle.first_judge.specs.Project.{ClassText}
-use Rattle.first_project.specs.declared.repeats.Repeat.{Repeat}
 use Rattle.first_project.specs.declared.progress.Progress.{Progress}
 use Rattle.first_project.specs.Trees.{TreeFile, IsReadAs, class_in, entry_of, types_of}
-use Rattle.first_project.specs.Answers.{AreFit}
-use Rattle.first_project.specs.Kept.{AreNamed, NamedBy, UnfitOf, AreCounted, IsKnown, AreKnown}
+use Rattle.first_project.specs.Kept.{AreNamed, UnfitOf, AreCounted, IsKnown, AreKnown}
 
 types_more : (trees : List TreeFile) (f : TreeFile) → types_of trees ++ map (class_in f) f.tree.types ≡ types_of (trees ++ f ∷ [])
 types_more trees f = flat_map_more (λ g. map (class_in g) g.tree.types) [] trees f
 
--- one more file was read
+-- one more tree
 pub known_more : (trees : List TreeFile) (f : TreeFile) (old new : Progress)
     → ((types : List ClassText) → AreNamed types old.names → AreNamed (types ++ map (class_in f) f.tree.types) new.names)
     → (new.names.repeat ≡ None → old.names.repeat ≡ None)
@@ -30,13 +28,7 @@ known_more trees f old new named no_repeat form no_unfit counted known =
       counted = λ apart fit. subst Q (types_more trees f) (counted apart fit (types_of trees) (known.counted (no_repeat apart) (no_unfit fit)));
     }
 
--- nothing but the limit of findings stands in the way
-pub fit_of : (trees : List TreeFile) (p : Progress) → p.names.repeat ≡ None → p.unfit ≡ None → IsKnown trees p → AreFit trees
-fit_of trees p apart fit known =
-    let P : Option Repeat → Type 0 = NamedBy (types_of trees) p.names.paths in
-    let all = subst P apart known.named in
-    record { apart = all.0; form = subst (UnfitOf trees) fit known.form }
-
+-- one more file was read, behind those that were
 pub read_more : (files : List Entry) (f : TreeFile) (old new : Progress) → IsReadAs f → ((trees : List TreeFile) → IsKnown trees old → IsKnown (trees ++ f ∷ []) new) → AreKnown files old → AreKnown (files ++ entry_of f ∷ []) new
 read_more files f old new reads step so = record {
   trees = so.trees ++ f ∷ [];

@@ -14,7 +14,7 @@ use Rattle.std.proofs.lemmas.List.Quantifiers.{all_pairs_push}
 use Rattle.std.proofs.lemmas.Slice.Eq.{bytes_eq-Decides}
 use Rattle.first_judge.specs.Project.{ClassText}
 use Rattle.first_project.specs.declared.repeats.Repeat.{Repeat}
-use Rattle.first_project.specs.Repeats.{NoRepeat, FirstRepeat, name_of}
+use Rattle.first_project.specs.Repeats.{NoRepeat, name_of}
 use Rattle.first_project.specs.Kept.{IsNamed, ArePaths, NamedBy}
 
 same_by : (p q : List ℕ) → is_eq (slice_cmp nat_cmp p q) ≡ true → p ≡ q
@@ -66,10 +66,6 @@ paths_put types c m n key path named placed updates old q =
 
 -- ---- the names so far
 
-without : (types : List ClassText) (m : BTreeMap (List ℕ) (Bor (List ℕ))) (o : Option Repeat) → is_some o ≡ false → NamedBy types m o → NamedBy types m None
-without types m None is named = named
-without types m (Some r) is named = cc
-
 -- a repeat stays the first
 pub names_stay : (types : List ClassText) (c : ClassText) (m : BTreeMap (List ℕ) (Bor (List ℕ))) (o : Option Repeat) → is_some o ≡ true → NamedBy types m o → NamedBy (types ++ c ∷ []) m o
 names_stay types c m None is named = cc
@@ -93,23 +89,3 @@ pub names_more : (types : List ClassText) (c : ClassText) (m n : BTreeMap (List 
 names_more types c m n (Some r) key path is named placed updates new so = cc
 names_more types c m n None key path is named placed updates new so =
     (apart_more types c so.0 (λ d among same. got types m key None so.1 new d among (same ∙ sym named)), paths_put types c m n key path named placed updates so.1)
-
--- the first repeat
-pub names_repeat : (types : List ClassText) (c : ClassText) (m : BTreeMap (List ℕ) (Bor (List ℕ))) (o : Option Repeat) (key : List ℕ) (first : Bor (List ℕ)) (r : Repeat) → is_some o ≡ false → key ≡ name_of c
-    → get (slice_cmp nat_cmp) m key ≡ Some first → r.name ≡ name_of c → r.first.now ≡ first.now → r.second.now ≡ c.path → NamedBy types m o → FirstRepeat (types ++ c ∷ []) r.name r.first.now r.second.now
-names_repeat types c m o key first r is named old name one two so =
-    let here = without types m o is so in
-    let n = got types m key (Some first) here.1 old in
-    record {
-      front = types;
-      type = c;
-      rest = [];
-      is = refl;
-      apart = here.0;
-      earlier = n.type;
-      among = n.among;
-      same = n.named ∙ named;
-      named = name;
-      first_path = one ∙ n.placed;
-      second_path = two;
-    }
