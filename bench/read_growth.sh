@@ -69,8 +69,8 @@ large=$(bundle large 11)
 printf 'end\n' >"$work/none"
 check "$work/large.bundle" || true
 none=$(least 20 check "$work/none")
-first=$(least 3 check "$work/small.bundle")
-second=$(least 3 check "$work/large.bundle")
+first=$(least 9 check "$work/small.bundle")
+second=$(least 9 check "$work/large.bundle")
 echo "empty $none ms, $small bytes $first ms, $large bytes $second ms"
 echo "growth $(((second - none) * small * 200 / (first - none) / large)) (hundredths, for twice the bytes)"
 echo "bytes a second $((large * 1000 / (second - none)))"
