@@ -1,3 +1,4 @@
+pub mod Apart
 pub mod Built
 pub mod Climbs
 pub mod Faulty

@@ -1,4 +1,5 @@
 pub mod Chains
+pub mod Disjoint
 pub mod Faults
 pub mod Marks
 pub mod Names

@@ -5,6 +5,7 @@
 mod check;
 mod climb;
 mod decl;
+mod disjoint;
 mod fault;
 mod make;
 mod mark;
@@ -15,6 +16,8 @@ mod tests;
 mod tree;
 
 pub use decl::{FieldPut, RegionDecl};
+pub use disjoint::DisjointRegions;
 pub use fault::RegionError;
 pub use make::build;
+pub use names::{find_parents, kind_of_number, number_names};
 pub use tree::{RegionId, RegionTree};

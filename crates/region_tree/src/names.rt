@@ -23,7 +23,7 @@ pub(crate) fn put_first(
 }
 
 // The numbers of all regions; a name has that of the first one.
-pub(crate) fn number_names(
+pub fn number_names(
     alloc: Global,
     declared: &[RegionDecl],
 ) -> Result<BTreeMap<Name, usize>, OutOfMemory>
@@ -52,7 +52,7 @@ pub(crate) fn number_written(
     }
 }
 
-pub(crate) fn kind_of_number(declared: &[RegionDecl], number: usize) -> Option<bool>
+pub fn kind_of_number(declared: &[RegionDecl], number: usize) -> Option<bool>
     ensures { result ≡ slice_get (region_kinds declared.now) number }
 {
     if number < 2 {
@@ -77,7 +77,7 @@ pub(crate) fn kind_written(
 }
 
 // The parents of all regions by their numbers.
-pub(crate) fn find_parents(
+pub fn find_parents(
     alloc: Global,
     declared: &[RegionDecl],
     numbers: &BTreeMap<Name, usize>,

@@ -1,6 +1,11 @@
+ghost use Rattle.region_tree.specs.Disjoint.{AreOf};
+ghost use Rattle.region_tree.specs.Tree.{parents_in};
+
 use crate::decl::{FieldPut, RegionDecl};
+use crate::disjoint::DisjointRegions;
 use crate::fault::RegionError;
 use crate::make::build;
+use crate::tree::RegionTree;
 use desk_base::Name;
 use std::alloc::Global;
 use std::process::Abort;
@@ -150,4 +155,44 @@ fn regions_are_under_their_parents(rt: HostRuntime) -> Result<(), Fail> {
     assert!(rt; tree.region(&name(alloc, "Q")?).is_none());
     assert!(rt; tree.region_of(&name(alloc, "m")?).is_none());
     Ok(())
+}
+
+fn assert_added(
+    rt: &(impl Abort + AllocGlobal),
+    tree: &RegionTree,
+    apart: &mut DisjointRegions,
+    text: &str,
+    want: bool,
+) -> Result<(), Fail>
+    requires { AreOf (parents_in tree.now) apart.old }
+    ensures { AreOf (parents_in tree.now) apart.new }
+{
+    let region = tree.region(&name(rt.alloc(), text)?).ok_or("no region")?;
+    assert_eq!(rt; apart.add(tree, region), want, "{text}");
+    Ok(())
+}
+
+#[test]
+fn regions_that_overlap_are_not_added(rt: HostRuntime) -> Result<(), Fail> {
+    let alloc = rt.alloc();
+    let declared = regions(
+        alloc,
+        &[
+            ("A", None, false),
+            ("B", Some("A"), false),
+            ("C", Some("B"), false),
+            ("D", Some("A"), false),
+            ("E", Some("D"), false),
+        ],
+    )?;
+    let tree = build(alloc, &declared, &[])?;
+    let mut apart = DisjointRegions::new(alloc, &tree)?;
+    assert_added(&rt, &tree, &mut apart, "B", true)?;
+    assert_added(&rt, &tree, &mut apart, "A", false)?;
+    assert_added(&rt, &tree, &mut apart, "C", false)?;
+    assert_added(&rt, &tree, &mut apart, "Instance", false)?;
+    assert_added(&rt, &tree, &mut apart, "D", true)?;
+    assert_added(&rt, &tree, &mut apart, "E", false)?;
+    assert_added(&rt, &tree, &mut apart, "B", false)?;
+    assert_added(&rt, &tree, &mut apart, "Static", true)
 }
