@@ -1,0 +1,13 @@
+pub mod Beginning
+pub mod Clearings
+pub mod Compact
+pub mod Dropping
+pub mod Forgetting
+pub mod Indexing
+pub mod Kept
+pub mod Leaving
+pub mod OneWay
+pub mod Settling
+pub mod Staging
+pub mod Standing
+pub mod Walking

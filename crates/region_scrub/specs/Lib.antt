@@ -1,0 +1,5 @@
+pub mod Clearing
+pub mod Indexes
+pub mod Numbers
+pub mod Rooting
+pub mod Stages

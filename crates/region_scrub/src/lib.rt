@@ -1,0 +1,19 @@
+//! Which region declarations of a class stand: faulty ones are set aside, one after another, until
+//! those that are left have no fault. It knows nothing of annotations nor of locks.
+#![tactic(auto)]
+
+mod fault;
+mod index;
+mod laws;
+mod left;
+mod make;
+mod mark;
+mod rooting;
+mod scrubber;
+#[cfg(test)]
+mod tests;
+
+pub use fault::RegionFault;
+pub use laws::one_clearing;
+pub use left::those_left;
+pub use make::set_faulty_aside;
