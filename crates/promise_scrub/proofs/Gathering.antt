@@ -1,6 +1,6 @@
 -- The annotations of members, the kinds of regions and locks, and the codes of a header, one by one.
-use Rattle.std.proofs.Common.{◌≡◌, ℕ, zero, suc, ◌+◌, ◌<◌, List, [], ◌∷◌, ◌++◌, length, take, get_or, refl, sym, ◌∙◌, ap, subst, Bool, true, false, cond}
-use Rattle.std.specs.Prelude.{Option, Some, None, codes, is_some}
+use Rattle.std.proofs.Common.{◌≡◌, ℕ, ◌+◌, ◌<◌, List, [], ◌∷◌, ◌++◌, length, take, get_or, refl, sym, ◌∙◌, ap, subst, Bool, true, false, cond}
+use Rattle.std.specs.Prelude.{Option, Some, None, codes, is_some, slice_set}
 use Rattle.std.specs.Option.{option_or}
 use Rattle.std.specs.Str.{bytes_eq}
 use Rattle.std.specs.Map.{lookup}
@@ -23,7 +23,8 @@ use Rattle.promise_scrub.specs.Locks.{Fields, HasFields, LockSteps, declared_kin
 use Rattle.class_faces.specs.declared.face.FieldFace.{FieldFace}
 use Rattle.scrub_rules.specs.declared.place.Site.{Site}
 use Rattle.scrub_rules.specs.Place.{first_code}
-use Rattle.promise_scrub.specs.Regions.{Scrubs, ScrubsIn, first_codes}
+use Rattle.region_scrub.specs.declared.fault.RegionFault.{RegionFault}
+use Rattle.promise_scrub.specs.Regions.{Scrubs, codes_with, fault_code, first_codes}
 use Rattle.promise_scrub.specs.Surfaces.{AreMemberMarks, lock_kind, PutsKind, HasKinds}
 
 marks_push : (ms : List MemberTree) (marks : List (List Mark)) (m : MemberTree) (new : List Mark) → AreMemberMarks ms marks → AreMarks (by_member m) new
@@ -143,11 +144,11 @@ roots_kinds m0 m1 m2 first second empty is_first is_second one two = record {
 }
 
 -- the codes stay as many as they were
-pub codes_long : (n : ℕ) (ds : List RegionDecl) (ps : List ℕ) (cs : List (Option ScrubCode)) (left : List RegionDecl) (after : List (Option ScrubCode))
-    → ScrubsIn n ds ps cs left after → length after ≡ length cs
-codes_long zero ds ps cs left after (good, is, same) = ap length same
-codes_long (suc n) ds ps cs left after (why, fault, (fewer, places, between, aside, rest)) =
-    codes_long n fewer places between left after rest ∙ ap length aside.coded ∙ length-set cs aside.place (Some _)
+pub codes_long : (places : List ℕ) (aside : List (Option RegionFault)) (given : List (Option ScrubCode)) → length (codes_with places aside given) ≡ length given
+codes_long [] aside given = refl
+codes_long (p ∷ ps) [] given = refl
+codes_long (p ∷ ps) (None ∷ more) given = codes_long ps more given
+codes_long (p ∷ ps) (Some why ∷ more) given = codes_long ps more (slice_set given p (Some (fault_code why))) ∙ length-set given p (Some (fault_code why))
 
 pub none_of : (o : Option Bool) → is_some o ≡ false → o ≡ None
 none_of None h = refl
@@ -177,4 +178,4 @@ steps_at rs rs' ks kinds known fields marks cs cs' locks after same_rs same_ks s
 pub codes_fit : (site : Site) (marks : List Mark) (cs cs' after : List (Option ScrubCode)) (ds : List RegionDecl) (ps : List ℕ) (left : List RegionDecl)
     → cs' ≡ after → cs ≡ first_codes site marks → Scrubs ds ps cs left after → length cs' ≡ length marks
 codes_fit site marks cs cs' after ds ps left same first s =
-    ap length same ∙ codes_long s.0 ds ps cs left after s.1 ∙ ap length first ∙ length-map marks (λ (m : Mark). first_code site m.tree)
+    ap length same ∙ ap length s.coded ∙ codes_long ps s.aside cs ∙ ap length first ∙ length-map marks (λ (m : Mark). first_code site m.tree)

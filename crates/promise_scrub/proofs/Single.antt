@@ -1,7 +1,6 @@
 -- A class has one surface: each part is settled by the one before it.
-use Rattle.std.proofs.Common.{◌≡◌, ℕ, zero, suc, ◌<◌, ◌⊎◌, inl, inr, List, [], ◌∷◌, length, refl, sym, ◌∙◌, ap, subst, arith}
-use Rattle.std.specs.Prelude.{Option, Some, None, remove, slice_set}
-use Rattle.std.specs.List.{slice_get}
+use Rattle.std.proofs.Common.{◌≡◌, ℕ, List, [], ◌∷◌, refl, sym, ◌∙◌, ap, subst}
+use Rattle.std.specs.Prelude.{Option, Some, None}
 use Rattle.java_tree.specs.declared.file.ClassTree.{ClassTree}
 use Rattle.java_tree.specs.declared.member.MemberTree.{MemberTree}
 use Rattle.class_faces.specs.Faces.{field_faces}
@@ -12,16 +11,16 @@ use Rattle.promise_marks.specs.declared.mark.Mark.{Mark}
 use Rattle.promise_marks.specs.Given.{Given, by_header, by_member}
 use Rattle.promise_marks.specs.Marks.{IsTree, IsMark, AreMarks}
 use Rattle.region_tree.specs.declared.decl.RegionDecl.{RegionDecl}
-use Rattle.region_tree.specs.declared.fault.RegionError.{RegionError}
-use Rattle.region_tree.specs.declared.fault.RegionError.TheVariants as fault
-use Rattle.region_tree.specs.Faults.{AllGood, IsGood, DeclFault, FirstDeclFault, IsFault}
 use Rattle.scrub_rules.specs.declared.code.ScrubCode.{ScrubCode}
 use Rattle.scrub_rules.specs.Place.{header_site}
 use Rattle.scrub_rules.specs.Target.{Kinds}
 use Rattle.promise_scrub.specs.declared.lock.Lock.{Lock}
 use Rattle.promise_scrub.specs.declared.surface.Surface.{Surface as Face}
 use Rattle.promise_scrub.specs.Locks.{Fields, IsLateCode, LockStep, LockSteps, early_code, fields_by, locks_with, lock_by, region_kind}
-use Rattle.promise_scrub.specs.Regions.{ScrubsIn, named, fault_code, decls_of, places_from, first_codes}
+use Rattle.region_scrub.specs.declared.fault.RegionFault.{RegionFault}
+use Rattle.region_scrub.specs.Clearing.{left}
+use Rattle.region_scrub.proofs.OneWay.{clears_same}
+use Rattle.promise_scrub.specs.Regions.{Scrubs, codes_with, decls_of, places_from, first_codes}
 use Rattle.promise_scrub.specs.Surfaces.{AreMemberMarks, HeaderScrubbed, Surface, face_with, lock_kind}
 
 -- ---- the annotations
@@ -64,104 +63,14 @@ member_marks_same (t ∷ ts) (m ∷ ms) (n ∷ ns) a b =
 
 -- ---- the regions
 
--- of a fault that names a declaration
-first_fault : (ds : List RegionDecl) (why : RegionError) (at : ℕ) → IsFault ds [] why → named why ds ≡ Some at → FirstDeclFault ds why
-first_fault ds (fault.Repeated name) at f n = f
-first_fault ds (fault.UnknownParent name) at f n = f
-first_fault ds (fault.Mixed name) at f n = f
-first_fault ds (fault.Cycle name) at f n = f
-first_fault ds (fault.FieldRegion name) at f n = absurd (cc)
-first_fault ds fault.OutOfMemory at f n = absurd (cc)
-
-is_bad : (ds : List RegionDecl) (i : ℕ) (d : RegionDecl) (why : RegionError) (at : ℕ) → DeclFault ds i d why → named why ds ≡ Some at → IsGood ds i d → ⊥
-is_bad ds i d (fault.Repeated name) at f n good = f.1 good.0
-is_bad ds i d (fault.UnknownParent name) at f n good = let none = f.2 in let some = good.1 in absurd (cc)
-is_bad ds i d (fault.Mixed name) at f n good = let kind = f.2.1 in let some = good.1 in f.2.2 (cc)
-is_bad ds i d (fault.Cycle name) at f n good = f.3 good.2
-is_bad ds i d (fault.FieldRegion name) at f n good = absurd f
-is_bad ds i d fault.OutOfMemory at f n good = absurd (cc)
-
-one_fault : (ds : List RegionDecl) (i : ℕ) (d : RegionDecl) (a b : RegionError) (at bt : ℕ) → DeclFault ds i d a → DeclFault ds i d b
-    → named a ds ≡ Some at → named b ds ≡ Some bt → a ≡ b
-one_fault ds i d (fault.Repeated n) (fault.Repeated m) at bt f g p q = ap (λ (x : List ℕ). fault.Repeated x) (f.0 ∙ sym g.0)
-one_fault ds i d (fault.Repeated n) (fault.UnknownParent m) at bt f g p q = absurd (f.1 g.1)
-one_fault ds i d (fault.Repeated n) (fault.Mixed m) at bt f g p q = absurd (f.1 g.1)
-one_fault ds i d (fault.Repeated n) (fault.Cycle m) at bt f g p q = absurd (f.1 g.1)
-one_fault ds i d (fault.UnknownParent n) (fault.Repeated m) at bt f g p q = absurd (g.1 f.1)
-one_fault ds i d (fault.UnknownParent n) (fault.UnknownParent m) at bt f g p q = ap (λ (x : List ℕ). fault.UnknownParent x) (f.0 ∙ sym g.0)
-one_fault ds i d (fault.UnknownParent n) (fault.Mixed m) at bt f g p q = let none = f.2 in let some = g.2.1 in absurd (cc)
-one_fault ds i d (fault.UnknownParent n) (fault.Cycle m) at bt f g p q = let none = f.2 in let some = g.2 in absurd (cc)
-one_fault ds i d (fault.Mixed n) (fault.Repeated m) at bt f g p q = absurd (g.1 f.1)
-one_fault ds i d (fault.Mixed n) (fault.UnknownParent m) at bt f g p q = let none = g.2 in let some = f.2.1 in absurd (cc)
-one_fault ds i d (fault.Mixed n) (fault.Mixed m) at bt f g p q = ap (λ (x : List ℕ). fault.Mixed x) (f.0 ∙ sym g.0)
-one_fault ds i d (fault.Mixed n) (fault.Cycle m) at bt f g p q = let kind = f.2.1 in let some = g.2 in absurd (f.2.2 (cc))
-one_fault ds i d (fault.Cycle n) (fault.Repeated m) at bt f g p q = absurd (g.1 f.1)
-one_fault ds i d (fault.Cycle n) (fault.UnknownParent m) at bt f g p q = let none = g.2 in let some = f.2 in absurd (cc)
-one_fault ds i d (fault.Cycle n) (fault.Mixed m) at bt f g p q = let kind = g.2.1 in let some = f.2 in absurd (g.2.2 (cc))
-one_fault ds i d (fault.Cycle n) (fault.Cycle m) at bt f g p q = ap (λ (x : List ℕ). fault.Cycle x) (f.0 ∙ sym g.0)
-one_fault ds i d (fault.FieldRegion n) b at bt f g p q = absurd f
-one_fault ds i d fault.OutOfMemory b at bt f g p q = absurd (cc)
-one_fault ds i d (fault.Repeated n) (fault.FieldRegion m) at bt f g p q = absurd g
-one_fault ds i d (fault.Repeated n) fault.OutOfMemory at bt f g p q = absurd (cc)
-one_fault ds i d (fault.UnknownParent n) (fault.FieldRegion m) at bt f g p q = absurd g
-one_fault ds i d (fault.UnknownParent n) fault.OutOfMemory at bt f g p q = absurd (cc)
-one_fault ds i d (fault.Mixed n) (fault.FieldRegion m) at bt f g p q = absurd g
-one_fault ds i d (fault.Mixed n) fault.OutOfMemory at bt f g p q = absurd (cc)
-one_fault ds i d (fault.Cycle n) (fault.FieldRegion m) at bt f g p q = absurd g
-one_fault ds i d (fault.Cycle n) fault.OutOfMemory at bt f g p q = absurd (cc)
-
-compared : (i j : ℕ) → (i < j) ⊎ ((j < i) ⊎ (i ≡ j))
-compared i j = grind arith
-
-fault_same : (ds : List RegionDecl) (a b : RegionError) (at bt : ℕ) → IsFault ds [] a → IsFault ds [] b → named a ds ≡ Some at → named b ds ≡ Some bt → a ≡ b
-fault_same ds a b at bt f g p q = go (first_fault ds a at f p) (first_fault ds b bt g q)
-  where
-    go : FirstDeclFault ds a → FirstDeclFault ds b → a ≡ b
-    go (i, (d, get_d, good_i, fi)) (j, (e, get_e, good_j, fj)) =
-        elim (compared i j) as (λ _. a ≡ b) [
-          | inl lt ↦ absurd (is_bad ds i d a at fi p (good_j i d lt get_d))
-          | inr more ↦ elim more as (λ _. a ≡ b) [
-            | inl gt ↦ absurd (is_bad ds j e b bt fj q (good_i j e gt get_e))
-            | inr same ↦
-                let there : slice_get ds i ≡ Some e = subst (λ (x : ℕ). slice_get ds x ≡ Some e) (sym same) get_e in
-                let one : e ≡ d = cc in
-                one_fault ds i d a b at bt fi (subst (λ (x : RegionDecl). DeclFault ds i x b) one (subst (λ (x : ℕ). DeclFault ds x e b) (sym same) fj)) p q
-          ]
-        ]
-
-all_good : (ds : List RegionDecl) (why : RegionError) (at : ℕ) → AllGood ds (length ds) → IsFault ds [] why → named why ds ≡ Some at → ⊥
-all_good ds why at good f n = go (first_fault ds why at f n)
-  where
-    got_within : (xs : List RegionDecl) (i : ℕ) (d : RegionDecl) → slice_get xs i ≡ Some d → i < length xs
-    got_within [] i d get = absurd (cc)
-    got_within (x ∷ xs) zero d get = omega arith
-    got_within (x ∷ xs) (suc i) d get = omega (arith, got_within xs i d get)
-
-    go : FirstDeclFault ds why → ⊥
-    go (i, (d, get, good_i, fi)) = is_bad ds i d why at fi n (good i d (got_within ds i d get) get)
-
 abbrev Both : List RegionDecl → List RegionDecl → List (Option ScrubCode) → List (Option ScrubCode) → Type 0
 Both left left' after after' = (left ≡ left') × (after ≡ after')
 
-scrubs_same : (n k : ℕ) (ds : List RegionDecl) (ps : List ℕ) (cs : List (Option ScrubCode)) (left left' : List RegionDecl) (after after' : List (Option ScrubCode))
-    → ScrubsIn n ds ps cs left after → ScrubsIn k ds ps cs left' after' → Both left left' after after'
-scrubs_same zero zero ds ps cs left left' after after' a b = (a.1 ∙ sym b.1, a.2 ∙ sym b.2)
-scrubs_same zero (suc k) ds ps cs left left' after after' a (why, f, (fewer, places, between, aside, rest)) = absurd (all_good ds why aside.at a.0 f aside.names)
-scrubs_same (suc n) zero ds ps cs left left' after after' (why, f, (fewer, places, between, aside, rest)) b = absurd (all_good ds why aside.at b.0 f aside.names)
-scrubs_same (suc n) (suc k) ds ps cs left left' after after' (why, f, (fewer, places, between, s, rest)) (why', f', (fewer', places', between', t, rest')) =
-    let same : why ≡ why' = fault_same ds why why' s.at t.at f f' s.names t.names in
-    let at_t : named why ds ≡ Some t.at = ap (λ (w : RegionError). named w ds) same ∙ t.names in
-    let at_same : s.at ≡ t.at = let h = s.names in cc in
-    let stands : slice_get ps s.at ≡ Some t.place = ap (λ (x : ℕ). slice_get ps x) at_same ∙ t.stands in
-    let place_same : s.place ≡ t.place = let h = s.stands in cc in
-    let fewer_same : fewer' ≡ fewer = t.goes ∙ ap (λ (x : ℕ). remove ds x) (sym at_same) ∙ sym s.goes in
-    let places_same : places' ≡ places = t.goes_place ∙ ap (λ (x : ℕ). remove ps x) (sym at_same) ∙ sym s.goes_place in
-    let between_same : between' ≡ between =
-    t.coded ∙ ap (λ (x : ℕ). slice_set cs x (Some (fault_code why'))) (sym place_same) ∙ ap (λ (w : RegionError). slice_set cs s.place (Some (fault_code w))) (sym same) ∙ sym s.coded in
-    scrubs_same n k fewer places between left left' after after' rest
-    (subst (λ (x : List (Option ScrubCode)). ScrubsIn k fewer places x left' after') between_same
-    (subst (λ (x : List ℕ). ScrubsIn k fewer x between' left' after') places_same
-    (subst (λ (x : List RegionDecl). ScrubsIn k x places' between' left' after') fewer_same rest')))
+scrubs_same : (ds : List RegionDecl) (ps : List ℕ) (cs : List (Option ScrubCode)) (one other : List RegionDecl) (after after' : List (Option ScrubCode))
+    → Scrubs ds ps cs one after → Scrubs ds ps cs other after' → Both one other after after'
+scrubs_same ds ps cs one other after after' a b =
+    let same : a.aside ≡ b.aside = clears_same a.clears.0 b.clears.0 ds _ a.aside b.aside a.clears.1 b.clears.1 in
+    (a.are_left ∙ ap (left ds) same ∙ sym b.are_left, a.coded ∙ ap (λ (z : List (Option RegionFault)). codes_with ps z cs) same ∙ sym b.coded)
 
 -- ---- the locks
 
@@ -209,8 +118,8 @@ one_face class a b s t =
         → HeaderScrubbed (header_site class.kind) (field_faces class) header regions' locks' codes'
         → (regions ≡ regions') × (locks ≡ locks') × (codes ≡ codes')
     scrubbed header regions regions' locks locks' codes codes' (between, s1, l1) (between', s2, l2) =
-        let r = scrubs_same s1.0 s2.0 (decls_of (header_site class.kind) header) (places_from (header_site class.kind) 0 header)
-        (first_codes (header_site class.kind) header) regions regions' between between' s1.1 s2.1 in
+        let r = scrubs_same (decls_of (header_site class.kind) header) (places_from (header_site class.kind) 0 header)
+        (first_codes (header_site class.kind) header) regions regions' between between' s1 s2 in
         let l = steps_same regions (region_kind regions) (fields_by (field_faces class)) header between [] locks locks' codes codes' l1
         (subst (λ (x : List (Option ScrubCode)). LockSteps regions (region_kind regions) (fields_by (field_faces class)) header x [] locks' codes') (sym r.1)
         (subst (λ (x : List RegionDecl). LockSteps x (region_kind x) (fields_by (field_faces class)) header between' [] locks' codes') (sym r.0) l2)) in

@@ -1,5 +1,5 @@
 -- The locks of a class: which of its RegionLock annotations stand.
-use Rattle.std.specs.Prelude.{◌≡◌, ℕ, Bool, true, false, ◌&&◌, ◌||◌, not, ◌⊎◌, List, [], ◌∷◌, ◌++◌, Option, Some, None, find, codes, if◌then◌else◌}
+use Rattle.std.specs.Prelude.{◌≡◌, ℕ, Bool, true, false, ◌&&◌, ◌||◌, not, ◌⊎◌, ◌↔◌, List, [], ◌∷◌, ◌++◌, Option, Some, None, find, codes, if◌then◌else◌}
 use Rattle.std.specs.List.{list_any}
 use Rattle.std.specs.Option.{option_map, option_or}
 use Rattle.std.specs.Ordering.{nat_cmp}
@@ -16,6 +16,8 @@ use Rattle.promise_grammar.specs.declared.tree.PromiseTree.TheOpen.{PromiseTree-
 use Rattle.promise_marks.specs.declared.mark.Mark.{Mark}
 use Rattle.region_tree.specs.declared.decl.RegionDecl.{RegionDecl}
 use Rattle.region_tree.specs.Chains.{IsUnder}
+use Rattle.region_tree.specs.declared.disjoint.DisjointRegions.{DisjointRegions}
+use Rattle.region_tree.specs.Disjoint.{AreOf, IsHeld, OverlapsHeld}
 use Rattle.region_tree.specs.Regions.{number_of, parents_of}
 use Rattle.scrub_rules.specs.declared.code.ScrubCode.{ScrubCode}
 use Rattle.scrub_rules.specs.declared.code.ScrubCode.TheVariants as scrub
@@ -128,6 +130,20 @@ Overlap declared a b =
 abbrev pub OverlapsAny : List RegionDecl → List ℕ → List Lock → Type 0
 OverlapsAny declared region [] = ⊥
 OverlapsAny declared region (l ∷ ls) = Overlap declared region l.region ⊎ OverlapsAny declared region ls
+
+-- one of the locks has the region of this number
+abbrev pub HasRegion : List RegionDecl → List Lock → ℕ → Type 0
+HasRegion declared [] k = ⊥
+HasRegion declared (l ∷ ls) k = (number_of declared l.region ≡ Some k) ⊎ HasRegion declared ls k
+
+-- the regions that are held are those of the locks
+pub record HoldsRegions (declared : List RegionDecl) (held : DisjointRegions) (locks : List Lock) : Type 0 where
+  pub of : AreOf (parents_of declared) held
+  pub holds : (k : ℕ) → IsHeld held k ↔ HasRegion declared locks k
+
+-- the region of the name is a held one, or under or above one
+abbrev pub HeldOverlaps : List RegionDecl → DisjointRegions → List ℕ → Type 0
+HeldOverlaps declared held name = (x : ℕ) × (number_of declared name ≡ Some x) × OverlapsHeld (parents_of declared) held x
 
 -- with no earlier code: set aside exactly where the region overlaps that of a lock that stands
 abbrev pub IsLateCode : List RegionDecl → List Lock → RegionLockContent → Option ScrubCode → Option ScrubCode → Type 0

@@ -31,7 +31,7 @@ pub use lock::{Lock, LockField};
 pub use locks::{HeaderLocks, scrub_locks};
 pub use member::Scoped;
 pub use region_tree::RegionDecl;
-pub use regions::{decls_of, first_codes, places_of, scrub_regions};
+pub use regions::{ScrubbedRegions, decls_of, first_codes, places_of, scrub_regions};
 pub use scrub::surface_of;
 pub use scrub_rules::ScrubCode;
 pub use spread::{promises_of, scoped_of};

@@ -1,11 +1,13 @@
-ghost use Rattle.std.specs.Prelude.{◌≡◌, ◌↔◌, ◌<◌, ℕ, List, [], length, IsTrue, IfOk, OnOk, is_some};
+ghost use Rattle.std.specs.Prelude.{◌≡◌, ◌↔◌, ◌⊎◌, ◌<◌, ℕ, List, [], length, not, IsTrue, IfOk, OnOk, is_some};
+ghost use Rattle.std.specs.Bool.{OnTrue, OnFalse};
 ghost use Rattle.std.specs.Option.{option_copied};
 ghost use Rattle.promise_grammar.specs.declared.tree.PromiseTree.{out-PromiseTree};
+ghost use Rattle.region_tree.specs.Disjoint.{AreOf, IsHeld};
 ghost use Rattle.region_tree.specs.Regions.{number_of, parents_of};
 ghost use Rattle.region_tree.specs.Tree.{parents_in, region_in as region_at};
 ghost use Rattle.scrub_rules.specs.Target.{kinds_in};
 ghost use Rattle.promise_scrub.specs.Locks as spec;
-ghost use Rattle.promise_scrub.specs.Locks.{fields_in, IsLockCode, IsLateCode, LockStep, LockSteps, Overlap, OverlapsAny};
+ghost use Rattle.promise_scrub.specs.Locks.{fields_in, locks_with, HeldOverlaps, HoldsRegions, IsLockCode, IsLateCode, LockStep, LockSteps};
 
 use crate::lock::{Lock, LockField};
 use crate::regions::is_root;
@@ -13,7 +15,7 @@ use crate::table::LockTable;
 use desk_base::{Items, Name, OutOfMemory};
 use promise_grammar::{LockHolder, PromiseTree, RegionLockContent};
 use promise_marks::Mark;
-use region_tree::{RegionDecl, RegionTree};
+use region_tree::{DisjointRegions, RegionDecl, RegionTree};
 use scrub_rules::ScrubCode;
 use std::alloc::Global;
 use std::collections::BTreeMap;
@@ -134,52 +136,57 @@ fn early_code(
     by_kind(fields, &content.holder, kind_in(kinds, &content.region))
 }
 
-// Whether the region of one name is under that of the other, or above it.
-fn overlap(declared: &[RegionDecl], tree: &RegionTree, a: &Name, b: &Name) -> bool
-    requires parents { parents_in tree.now ≡ parents_of declared.now }
-    requires regions { (name : List ℕ) → region_at tree.now name ≡ number_of declared.now name }
-    ensures { IsTrue result ↔ Overlap declared.now a.now b.now }
-{
-    let Some(x) = tree.region(a) else {
-        return false;
-    };
-    let Some(y) = tree.region(b) else {
-        return false;
-    };
-    tree.is_under(x, y) || tree.is_under(y, x)
+// The locks of a header that stand so far, and their regions.
+#[derive(Drop)]
+struct StandingLocks {
+    table: LockTable,
+    held: DisjointRegions,
 }
 
-fn overlaps_any(declared: &[RegionDecl], tree: &RegionTree, region: &Name, locks: &[Lock]) -> bool
+// Whether the region of the name overlaps one that is held. Where it overlaps none, it is held
+// from now on.
+fn overlaps_held(
+    declared: &[RegionDecl],
+    tree: &RegionTree,
+    region: &Name,
+    held: &mut DisjointRegions,
+) -> bool
     requires parents { parents_in tree.now ≡ parents_of declared.now }
     requires regions { (name : List ℕ) → region_at tree.now name ≡ number_of declared.now name }
-    ensures { IsTrue result ↔ OverlapsAny declared.now region.now locks.now }
+    requires of { AreOf (parents_of declared.now) held.old }
+    ensures some { OnTrue result (HeldOverlaps declared.now held.old region.now) }
+    ensures none { OnFalse result (HeldOverlaps declared.now held.old region.now → ⊥) }
+    ensures held { (k : ℕ) → IsHeld held.new k ↔ (IsHeld held.old k ⊎ (IsTrue (not result) × (number_of declared.now region.now ≡ Some k))) }
+    ensures of { AreOf (parents_of declared.now) held.new }
 {
-    for lock in locks {
-        if overlap(declared, tree, region, &lock.region) {
-            return true;
-        }
+    match tree.region(region) {
+        Some(number) => !held.add(tree, number),
+        None => false,
     }
-    false
 }
 
-// The code of a RegionLock after these locks stand.
+// The code of a RegionLock after these locks stand. Where it has none, its region is held from now
+// on.
 fn lock_code(
     declared: &[RegionDecl],
     tree: &RegionTree,
     kinds: &BTreeMap<Name, bool>,
     fields: &BTreeMap<Name, LockField>,
-    locks: &LockTable,
+    locks: &mut StandingLocks,
     content: &RegionLockContent,
 ) -> Option<ScrubCode>
     requires parents { parents_in tree.now ≡ parents_of declared.now }
     requires regions { (name : List ℕ) → region_at tree.now name ≡ number_of declared.now name }
-    ensures { IsLockCode declared.now (kinds_in kinds.now) (fields_in fields.now) locks.now content.now result }
+    requires holds { HoldsRegions declared.now locks.old.held locks.old.table }
+    ensures code { IsLockCode declared.now (kinds_in kinds.now) (fields_in fields.now) locks.old.table content.now result }
+    ensures table { locks.new.table ≡ locks.old.table }
+    ensures holds { HoldsRegions declared.now locks.new.held (locks_with (fields_in fields.now) locks.old.table content.now result) }
 {
-    let early = early_code(kinds, fields, locks, content);
+    let early = early_code(kinds, fields, &locks.table, content);
     if early.is_some() {
         return early;
     }
-    if overlaps_any(declared, tree, &content.region, locks.as_slice()) {
+    if overlaps_held(declared, tree, &content.region, &mut locks.held) {
         Some(ScrubCode::OverlappingRegions)
     } else {
         None
@@ -217,18 +224,20 @@ fn put_lock(
     fields: &BTreeMap<Name, LockField>,
     before: Option<ScrubCode>,
     mark: &Mark,
-    locks: &mut LockTable,
+    locks: &mut StandingLocks,
 ) -> Result<Option<ScrubCode>, OutOfMemory>
     requires parents { parents_in tree.now ≡ parents_of declared.now }
     requires regions { (name : List ℕ) → region_at tree.now name ≡ number_of declared.now name }
-    ensures { IfOk result (λ after. LockStep declared.now (kinds_in kinds.now) (fields_in fields.now) (spec.lock_by before mark.now.tree) locks.old before locks.new after) }
+    requires holds { HoldsRegions declared.now locks.old.held locks.old.table }
+    ensures step { IfOk result (λ after. LockStep declared.now (kinds_in kinds.now) (fields_in fields.now) (spec.lock_by before mark.now.tree) locks.old.table before locks.new.table after) }
+    ensures holds { OnOk result (HoldsRegions declared.now locks.new.held locks.new.table) }
 {
     let Some(content) = lock_by(before, &mark.tree) else {
         return Ok(before);
     };
     let code = lock_code(declared, tree, kinds, fields, locks, content);
     if code.is_none() {
-        locks.push(lock_of(fields, content)?)?;
+        locks.table.push(lock_of(fields, content)?)?;
     }
     Ok(code)
 }
@@ -256,14 +265,17 @@ pub fn scrub_locks(
     requires long { length codes.now ≡ length marks.now }
     ensures { IfOk result (λ header. LockSteps declared.now (kinds_in kinds.now) (fields_in fields.now) marks.now codes.now [] header.locks header.codes) }
 {
-    let mut locks = LockTable::new(alloc);
+    let mut locks = StandingLocks {
+        table: LockTable::new(alloc),
+        held: DisjointRegions::new(alloc, tree)?,
+    };
     let mut after = Items::new(alloc);
     for (i, mark) in marks.iter().enumerate() {
         let code = put_lock(declared, tree, kinds, fields, codes[i], mark, &mut locks)?;
         after.push(code)?;
     }
     Ok(HeaderLocks {
-        locks: locks.into_items(),
+        locks: locks.table.into_items(),
         codes: after,
     })
 }

@@ -1,15 +1,17 @@
-ghost use Rattle.std.specs.Prelude.{◌≡◌, ◌++◌, ◌<◌, ◌≤◌, ℕ, List, length, map, IfOk, OnOk};
+ghost use Rattle.std.specs.Prelude.{◌≡◌, ◌++◌, ℕ, List, map, IfOk, OnOk};
+ghost use Rattle.std.specs.Option.{option_copied};
 ghost use Rattle.promise_grammar.specs.declared.tree.PromiseTree.{out-PromiseTree};
 ghost use Rattle.region_tree.specs.Regions.{number_of, parents_of};
 ghost use Rattle.region_tree.specs.Tree.{parents_in, region_in as region_at};
 ghost use Rattle.scrub_rules.specs.Place.{first_code};
 ghost use Rattle.promise_scrub.specs.Regions as spec;
-ghost use Rattle.promise_scrub.specs.Regions.{Scrubs, SetsAside};
+ghost use Rattle.promise_scrub.specs.Regions.{Scrubs};
 
 use desk_base::{Items, Name, OutOfMemory};
 use promise_grammar::PromiseTree;
 use promise_marks::Mark;
-use region_tree::{RegionDecl, RegionError, RegionTree, build};
+use region_scrub::{RegionFault, set_faulty_aside, those_left};
+use region_tree::{RegionDecl, RegionTree, build};
 use scrub_rules::{ScrubCode, Site, first_code};
 use std::alloc::Global;
 
@@ -110,89 +112,63 @@ pub(crate) fn is_root(name: &Name) -> bool
     name.as_slice() == b"Instance".as_slice() || name.as_slice() == b"Static".as_slice()
 }
 
-// The first declaration of a name, or the first that repeats it.
-fn declared_at(name: &Name, seen: bool, declared: &[RegionDecl]) -> Option<usize>
-    ensures { result ≡ spec.declared_at name.now seen 0 declared.now }
-{
-    let mut seen = seen;
-    for (i, decl) in declared.iter().enumerate() {
-        if decl.name.as_slice() == name.as_slice() {
-            if seen {
-                return Some(i);
-            }
-            seen = true;
-        }
-    }
-    None
-}
-
-// The declaration that a fault names.
-fn named(fault: &RegionError, declared: &[RegionDecl]) -> Option<usize>
-    ensures { result ≡ spec.named fault.now declared.now }
+fn fault_code(fault: RegionFault) -> ScrubCode
+    ensures { result ≡ spec.fault_code fault }
 {
     match fault {
-        RegionError::Repeated { name } => declared_at(name, is_root(name), declared),
-        RegionError::UnknownParent { name } => declared_at(name, true, declared),
-        RegionError::Mixed { name } => declared_at(name, true, declared),
-        RegionError::Cycle { name } => declared_at(name, true, declared),
-        RegionError::FieldRegion { .. } => None,
-        RegionError::OutOfMemory => None,
+        RegionFault::Repeated => ScrubCode::NameUsedTwice,
+        RegionFault::UnknownParent => ScrubCode::UnknownRegion,
+        RegionFault::Mixed => ScrubCode::MixedKinds,
+        RegionFault::Cycle => ScrubCode::RegionCycle,
     }
 }
 
-fn fault_code(fault: &RegionError) -> ScrubCode
-    ensures { result ≡ spec.fault_code fault.now }
+// Gives the annotation of a declaration that is set aside its code.
+fn put_code(codes: &mut Items<Option<ScrubCode>>, place: usize, aside: Option<&Option<RegionFault>>)
+    ensures { codes.new ≡ spec.coded (option_copied aside.entry) place codes.old }
 {
-    match fault {
-        RegionError::Repeated { .. } => ScrubCode::NameUsedTwice,
-        RegionError::UnknownParent { .. } => ScrubCode::UnknownRegion,
-        RegionError::Mixed { .. } => ScrubCode::MixedKinds,
-        RegionError::Cycle { .. } => ScrubCode::RegionCycle,
-        RegionError::FieldRegion { .. } => ScrubCode::UnknownRegion,
-        RegionError::OutOfMemory => ScrubCode::UnknownRegion,
-    }
-}
-
-// Takes the declaration that a fault names away, and gives its annotation the fault's code. Where
-// there is no such declaration, which no fault of `build` leaves, nothing is answered.
-fn set_aside(
-    fault: &RegionError,
-    declared: &mut Items<RegionDecl>,
-    places: &mut Items<usize>,
-    codes: &mut Items<Option<ScrubCode>>,
-) -> Result<(), OutOfMemory>
-    ensures aside { OnOk result (SetsAside fault.now declared.old places.old codes.old declared.new places.new codes.new) }
-    ensures fewer { OnOk result (length declared.new < length declared.old) }
-{
-    let Some(at) = named(fault, declared.as_slice()) else {
-        return Err(OutOfMemory);
+    let Some(Some(fault)) = aside else {
+        return;
     };
-    if at >= declared.len() || at >= places.len() {
-        return Err(OutOfMemory);
-    }
-    let _ = declared.remove(at);
-    let place = places.remove(at);
     if place < codes.len() {
-        codes.set(place, Some(fault_code(fault)));
+        codes.set(place, Some(fault_code(*fault)));
     }
-    Ok(())
 }
 
-/// Sets declarations aside until the others can be built, and builds them.
+// Gives the annotations of declarations that are set aside their codes.
+fn put_codes(places: &[usize], aside: &[Option<RegionFault>], codes: &mut Items<Option<ScrubCode>>)
+    ensures { codes.new ≡ spec.codes_with places.now aside.now codes.old }
+{
+    for (i, place) in places.iter().enumerate() {
+        put_code(codes, *place, sqlite_items::at(aside, i));
+    }
+}
+
+/// The regions of a class that stand, and their tree.
+#[derive(Drop)]
+pub struct ScrubbedRegions {
+    pub regions: Items<RegionDecl>,
+    pub tree: RegionTree,
+}
+
+/// Sets faulty declarations aside and builds the others. `places` has the numbers of the annotations
+/// of the declarations, whose codes are set.
 pub fn scrub_regions(
     alloc: Global,
-    declared: &mut Items<RegionDecl>,
-    places: &mut Items<usize>,
+    declared: &[RegionDecl],
+    places: &[usize],
     codes: &mut Items<Option<ScrubCode>>,
-) -> Result<RegionTree, OutOfMemory>
-    ensures scrubs { OnOk result (Scrubs declared.old places.old codes.old declared.new codes.new) }
-    ensures parents { IfOk result (λ tree. parents_in tree ≡ parents_of declared.new) }
-    ensures regions { IfOk result (λ tree. (name : List ℕ) → region_at tree name ≡ number_of declared.new name) }
+) -> Result<ScrubbedRegions, OutOfMemory>
+    ensures scrubs { IfOk result (λ scrubbed. Scrubs declared.now places.now codes.old scrubbed.regions codes.new) }
+    ensures parents { IfOk result (λ scrubbed. parents_in scrubbed.tree ≡ parents_of scrubbed.regions) }
+    ensures regions { IfOk result (λ scrubbed. (name : List ℕ) → region_at scrubbed.tree name ≡ number_of scrubbed.regions name) }
 {
-    'refused: loop {
-        match build(alloc, declared.as_slice(), &[]) {
-            Ok(tree) => return Ok(tree),
-            Err(fault) => set_aside(&fault, declared, places, codes)?,
-        }
+    let aside = set_faulty_aside(alloc, declared)?;
+    put_codes(places, &aside, codes);
+    let regions = Items::from_vec(those_left(alloc, declared, &aside)?);
+    match build(alloc, regions.as_slice(), &[]) {
+        Ok(tree) => Ok(ScrubbedRegions { regions, tree }),
+        // No fault is left, so memory was wanting.
+        Err(_) => Err(OutOfMemory),
     }
 }

@@ -44,23 +44,23 @@ fn scrub_header(
 ) -> Result<Header, OutOfMemory>
     ensures { IfOk result (λ h. HeaderScrubbed site fields.now marks.now h.regions h.locks h.codes) }
 {
-    let mut regions = decls_of(alloc, site, marks)?;
-    let mut places = places_of(alloc, site, marks)?;
+    let declared = decls_of(alloc, site, marks)?;
+    let places = places_of(alloc, site, marks)?;
     let mut codes = first_codes(alloc, site, marks)?;
-    let tree = scrub_regions(alloc, &mut regions, &mut places, &mut codes)?;
-    let kinds = region_kinds(alloc, regions.as_slice())?;
+    let left = scrub_regions(alloc, declared.as_slice(), places.as_slice(), &mut codes)?;
+    let kinds = region_kinds(alloc, left.regions.as_slice())?;
     let known = lock_fields(alloc, fields)?;
     let scrubbed = scrub_locks(
         alloc,
-        regions.as_slice(),
-        &tree,
+        left.regions.as_slice(),
+        &left.tree,
         &kinds,
         &known,
         marks,
         codes.as_slice(),
     )?;
     Ok(Header {
-        regions,
+        regions: left.regions,
         locks: scrubbed.locks,
         codes: scrubbed.codes,
     })

@@ -46,13 +46,6 @@ impl LockTable {
         self.names.contains(name)
     }
 
-    /// The locks in order.
-    pub(crate) fn as_slice(&self) -> &[Lock]
-        ensures { result.now ≡ self.now }
-    {
-        self.list.as_slice()
-    }
-
     /// Puts one more lock.
     pub(crate) fn push(&mut self, lock: Lock) -> Result<(), OutOfMemory>
         ensures { OnOk result (self.new ≡ self.old ++ lock ∷ []) }
