@@ -10,7 +10,7 @@ count=${1:-900}
 work=$(mktemp -d)
 trap 'rm -rf "$work"' EXIT
 mkdir -p "$work/crates/scrub_growth/src"
-names="desk_base java_tree java_lexer java_phrases java_heads java_expressions java_statements java_members java_reader promise_grammar region_tree class_faces promise_marks scrub_rules promise_scrub"
+names="desk_base java_tree java_lexer java_phrases java_heads java_expressions java_statements java_members java_reader promise_grammar region_tree region_scrub class_faces promise_marks scrub_rules promise_scrub"
 for name in $names; do
     cp -a "$top/crates/$name" "$work/crates/$name"
     grep "^$name:" "$top/crates.txt" >> "$work/crates.txt"
