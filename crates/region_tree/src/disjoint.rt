@@ -70,8 +70,7 @@ impl DisjointRegions {
     }
 
     /// Adds a region, unless it is one of these or under or above one of them; answers whether it
-    /// was added. The tree is that of `new`. It takes no memory, and all calls together climb each
-    /// region at most twice.
+    /// was added. The tree is that of `new`. It takes no memory.
     pub fn add(&mut self, tree: &RegionTree, region: RegionId) -> bool
         requires of { AreOf (parents_in tree.now) self.old }
         requires within { region.number < length (parents_in tree.now) }
