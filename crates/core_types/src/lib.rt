@@ -7,8 +7,6 @@ mod growing;
 mod reaching;
 mod refusing;
 mod sample;
-#[cfg(test)]
-mod tests;
 mod typing;
 
 pub use ending::threads_end_by_faults;

@@ -8,8 +8,6 @@ mod laws;
 mod locks;
 mod members;
 mod names;
-#[cfg(test)]
-mod tests;
 mod words;
 
 pub use form::is_first_form;

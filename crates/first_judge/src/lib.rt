@@ -8,8 +8,6 @@ mod judging;
 mod lines;
 mod project;
 mod rows;
-#[cfg(test)]
-mod tests;
 
 pub use accesses::Access;
 pub use counting::count_findings;

@@ -7,8 +7,6 @@ mod laws;
 mod operators;
 mod reader;
 mod tall;
-#[cfg(test)]
-mod tests;
 
 pub use grammar::{expr, post_within};
 pub use laws::one_expression;

@@ -14,8 +14,6 @@ mod names;
 mod nest;
 mod parameters;
 mod reader;
-#[cfg(test)]
-mod tests;
 
 pub use declaration::Declaration;
 pub use header::Header;

@@ -8,8 +8,6 @@ mod laws;
 mod lexer;
 mod scan;
 mod signs;
-#[cfg(test)]
-mod tests;
 mod value;
 mod words;
 

@@ -6,8 +6,6 @@ mod body;
 mod heading;
 mod laws;
 mod reader;
-#[cfg(test)]
-mod tests;
 
 pub use laws::one_member;
 pub use reader::read_member;

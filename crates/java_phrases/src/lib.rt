@@ -3,8 +3,6 @@
 #![tactic(auto)]
 
 mod error;
-#[cfg(test)]
-mod tests;
 mod tokens;
 mod types;
 

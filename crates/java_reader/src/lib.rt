@@ -8,8 +8,6 @@ mod file;
 mod laws;
 mod line;
 mod reader;
-#[cfg(test)]
-mod tests;
 
 pub use error::ReadError;
 pub use laws::{one_spelling, one_tree, parts_follow};

@@ -9,8 +9,6 @@ mod laws;
 mod locals;
 mod reader;
 mod statements;
-#[cfg(test)]
-mod tests;
 
 pub use laws::one_block;
 pub use reader::read_block;

@@ -30,6 +30,3 @@ pub use read::{one_tree, read_promise};
 pub use region::{RegionContent, Visibility};
 pub use scope::{NamePattern, ScopeContent};
 pub use tree::PromiseTree;
-
-#[cfg(test)]
-mod tests;

@@ -10,8 +10,6 @@ mod make;
 mod mark;
 mod rooting;
 mod scrubber;
-#[cfg(test)]
-mod tests;
 
 pub use fault::RegionFault;
 pub use laws::one_clearing;

@@ -11,8 +11,6 @@ mod make;
 mod mark;
 mod names;
 mod place;
-#[cfg(test)]
-mod tests;
 mod tree;
 
 pub use decl::{FieldPut, RegionDecl};

@@ -5,8 +5,6 @@
 mod answers;
 mod counts;
 mod finding_lines;
-#[cfg(test)]
-mod tests;
 mod text;
 mod verdict;
 mod verdict_lines;

@@ -5,8 +5,6 @@
 mod code;
 mod finding;
 mod put;
-#[cfg(test)]
-mod tests;
 mod write;
 
 pub use code::FindingCode;

@@ -1,4 +1,4 @@
-use crate::{one_part, read_field, read_header, read_import, read_package, read_sig};
+use java_heads::{one_part, read_field, read_header, read_import, read_package, read_sig};
 use java_lexer::lex;
 use java_phrases::{SyntaxError, Tokens};
 use java_tree::{Elem, Elements, Mod};
@@ -99,6 +99,22 @@ fn keeps_the_tree(rt: HostRuntime) -> Result<(), Fail> {
     Ok(())
 }
 
+/// A field behind so many annotations in one another, or only what opens these.
+fn nest(alloc: Global, depth: usize, is_closed: bool) -> Result<Vec<u8>, Fail> {
+    let mut text = Vec::new(alloc);
+    for _ in 0..depth {
+        text.extend_from_slice(b"@A(")?;
+    }
+    if is_closed {
+        text.extend_from_slice(b"\"\"")?;
+        for _ in 0..depth {
+            text.push(b')')?;
+        }
+        text.extend_from_slice(b" int n;")?;
+    }
+    Ok(text)
+}
+
 /// Annotations in one another. Where too many are open, the tree would be too deep to be dropped.
 #[test]
 fn deep_annotations(rt: HostRuntime) -> Result<(), Fail> {
@@ -108,17 +124,7 @@ fn deep_annotations(rt: HostRuntime) -> Result<(), Fail> {
         (65_000, true, Some(SyntaxError::OutOfMemory)),
         (87_000, false, Some(SyntaxError::OutOfMemory)),
     ] {
-        let mut text = Vec::new(rt.alloc());
-        for _ in 0..depth {
-            text.extend_from_slice(b"@A(")?;
-        }
-        if is_closed {
-            text.extend_from_slice(b"\"\"")?;
-            for _ in 0..depth {
-                text.push(b')')?;
-            }
-            text.extend_from_slice(b" int n;")?;
-        }
+        let text = nest(rt.alloc(), depth, is_closed)?;
         assert!(rt; text.len() < 300_000);
         let mut tokens = Tokens::new(rt.alloc(), lex(rt.alloc(), text.as_slice())?)?;
         let read = read_field(rt.alloc(), &mut tokens);

@@ -1,5 +1,5 @@
-use crate::{ascii_names, is_first_form};
 use desk_base::{Name, OutOfMemory, Span};
+use first_form::{ascii_names, is_first_form};
 use java_tree::{ClassTree, FileTree, TypeKind, Word};
 use sqlite_items::Items;
 use std::alloc::Global;

@@ -1,5 +1,5 @@
-use crate::{SyntaxError, Tokens, read_type};
 use desk_base::{Bytes, OutOfMemory, Span};
+use java_phrases::{SyntaxError, Tokens, read_type};
 use java_tree::{Kind, Token, Ty};
 use sqlite_items::Items;
 use std::alloc::Global;

@@ -1,7 +1,7 @@
-use crate::code::FindingCode;
-use crate::finding::{Finding, FindingKey, FindingLink, VouchKey};
-use crate::write::{key_text, promise_text};
 use desk_base::{Items, PromiseKey, PromiseName, Text};
+use result_records::{
+    Finding, FindingCode, FindingKey, FindingLink, VouchKey, key_text, promise_text,
+};
 use std::alloc::Global;
 use std::test::Fail;
 

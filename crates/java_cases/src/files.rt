@@ -1,5 +1,5 @@
-use crate::{ReadError, line_of, one_spelling, one_tree, parts_follow, read_file};
 use desk_base::LimitName;
+use java_reader::{ReadError, line_of, one_spelling, one_tree, parts_follow, read_file};
 use java_tree::{FileTree, MemberTree, TypeKind};
 use std::alloc::Global;
 use std::test::Fail;

@@ -1,6 +1,6 @@
-use crate::{one_block, read_block};
 use java_lexer::lex;
 use java_phrases::Tokens;
+use java_statements::{one_block, read_block};
 use java_tree::{BlockItem, Kind, Stmt};
 use std::test::Fail;
 

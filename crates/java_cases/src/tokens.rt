@@ -1,4 +1,4 @@
-use crate::{LexError, lex, one_reading, string_value, tokens_follow, tokens_spelled};
+use java_lexer::{LexError, lex, one_reading, string_value, tokens_follow, tokens_spelled};
 use java_tree::Kind;
 use std::test::Fail;
 

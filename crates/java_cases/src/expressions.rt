@@ -1,4 +1,4 @@
-use crate::{one_expression, read_expr, read_post};
+use java_expressions::{one_expression, read_expr, read_post};
 use java_lexer::lex;
 use java_phrases::Tokens;
 use java_tree::{BinaryOp, Expr};

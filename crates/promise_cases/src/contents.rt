@@ -1,5 +1,9 @@
-use super::*;
 use desk_base::{Bytes, Name, OutOfMemory};
+use promise_grammar::{
+    BorrowedContent, EffectTarget, EffectsContent, LockHolder, LockItem, MemberContent, MemberName,
+    NamePattern, PromiseError, PromiseKind, PromiseTree, RegionContent, RegionLockContent,
+    ScopeContent, UniqueContent, Visibility, read_promise,
+};
 use std::alloc::Global;
 use std::process::Abort;
 use std::test::Fail;

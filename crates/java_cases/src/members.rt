@@ -1,6 +1,6 @@
-use crate::{one_member, read_member};
 use desk_base::Name;
 use java_lexer::lex;
+use java_members::{one_member, read_member};
 use java_phrases::{SyntaxError, Tokens};
 use java_tree::MemberTree;
 use std::test::Fail;

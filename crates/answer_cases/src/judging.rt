@@ -2,8 +2,8 @@ ghost use Rattle.std.specs.Prelude.{IfOk};
 ghost use Rattle.std.specs.Str.{IsAscii};
 ghost use Rattle.java_tree.specs.Names.{AsciiNames};
 
-use crate::{ClassFile, Parts};
 use desk_base::{Items, Name, OutOfMemory, Span};
+use first_judge::{ClassFile, Parts};
 use java_tree::{Annot, ClassTree, Elements, Mod, TypeKind, Word};
 use report::report_text;
 use std::alloc::Global;

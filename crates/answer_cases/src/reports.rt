@@ -1,8 +1,5 @@
-use crate::answers::{Answers, FindingRow, VerdictRow};
-use crate::text::report_text;
-use crate::verdict::Verdict;
-use crate::verdict_lines::verdict_line;
 use desk_base::{Bytes, Items, Name, PromiseKey, PromiseName, Text};
+use report::{Answers, FindingRow, Verdict, VerdictRow, report_text, verdict_line};
 use result_records::{Finding, FindingCode, FindingKey, FindingLink, VouchKey};
 use std::alloc::Global;
 use std::test::Fail;

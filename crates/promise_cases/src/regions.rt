@@ -1,12 +1,8 @@
 ghost use Rattle.region_tree.specs.Disjoint.{AreOf};
 ghost use Rattle.region_tree.specs.Tree.{parents_in};
 
-use crate::decl::{FieldPut, RegionDecl};
-use crate::disjoint::DisjointRegions;
-use crate::fault::RegionError;
-use crate::make::build;
-use crate::tree::RegionTree;
 use desk_base::Name;
+use region_tree::{DisjointRegions, FieldPut, RegionDecl, RegionError, RegionTree, build};
 use std::alloc::Global;
 use std::process::Abort;
 use std::test::Fail;
@@ -76,81 +72,109 @@ fn assert_fault(
     Ok(())
 }
 
-#[test]
-fn the_first_faulty_declaration_is_named(rt: HostRuntime) -> Result<(), Fail> {
-    let a = ("A", None, false);
-    let b_in_a = ("B", Some("A"), false);
-    let b_in_z = ("B", Some("Z"), false);
-    let b_static = ("B", None, true);
-    let a_in_b = ("A", Some("B"), false);
-    assert_fault(&rt, &[a_in_b, b_in_a], &[], "cycle", "A")?;
-    assert_fault(&rt, &[b_in_a], &[], "unknown", "B")?;
-    assert_fault(&rt, &[("A", Some("A"), false)], &[], "cycle", "A")?;
-    assert_fault(&rt, &[a_in_b, b_in_z], &[], "cycle", "A")?;
-    assert_fault(&rt, &[a, ("Static", None, true)], &[], "repeated", "Static")?;
-    assert_fault(&rt, &[a, a], &[], "repeated", "A")?;
-    assert_fault(&rt, &[("A", Some("Static"), false)], &[], "mixed", "A")?;
-    assert_fault(&rt, &[a_in_b, b_static], &[], "mixed", "A")
-}
+const A: Written = ("A", None, false);
 
-#[test]
-fn the_first_faulty_field_is_named(rt: HostRuntime) -> Result<(), Fail> {
-    let a = ("A", None, false);
-    let n = ("n", Some("A"), false);
-    assert_fault(&rt, &[a], &[n, ("m", Some("B"), false)], "field", "m")?;
-    assert_fault(&rt, &[a], &[("n", Some("A"), true), n], "field", "n")?;
-    assert_fault(
-        &rt,
+const B_IN_A: Written = ("B", Some("A"), false);
+
+const A_IN_B: Written = ("A", Some("B"), false);
+
+const N_IN_A: Written = ("n", Some("A"), false);
+
+/// Declarations, fields, and the first fault of both with what it names.
+const FAULTS: [(&[Written], &[Written], &str, &str); 11] = [
+    (&[A_IN_B, B_IN_A], &[], "cycle", "A"),
+    (&[B_IN_A], &[], "unknown", "B"),
+    (&[("A", Some("A"), false)], &[], "cycle", "A"),
+    (&[A_IN_B, ("B", Some("Z"), false)], &[], "cycle", "A"),
+    (&[A, ("Static", None, true)], &[], "repeated", "Static"),
+    (&[A, A], &[], "repeated", "A"),
+    (&[("A", Some("Static"), false)], &[], "mixed", "A"),
+    (&[A_IN_B, ("B", None, true)], &[], "mixed", "A"),
+    (&[A], &[N_IN_A, ("m", Some("B"), false)], "field", "m"),
+    (&[A], &[("n", Some("A"), true), N_IN_A], "field", "n"),
+    (
         &[("A", Some("Z"), false)],
         &[("n", Some("Y"), false)],
         "unknown",
         "A",
-    )
+    ),
+];
+
+#[test]
+fn the_first_fault_is_named(rt: HostRuntime) -> Result<(), Fail> {
+    for (declared, fields, kind, name) in FAULTS {
+        assert_fault(&rt, declared, fields, kind, name)?;
+    }
+    Ok(())
+}
+
+const DECLARED: [Written; 4] = [
+    ("C", Some("B"), false),
+    ("B", Some("A"), false),
+    ("A", None, false),
+    ("S", None, true),
+];
+
+const FIELDS: [Written; 4] = [
+    ("n", Some("A"), false),
+    ("k", Some("C"), false),
+    ("s", None, true),
+    ("i", None, false),
+];
+
+/// Two regions, and whether the first is under the second.
+const UNDER: [(&str, &str, bool); 9] = [
+    ("A", "Instance", true),
+    ("Instance", "A", false),
+    ("A", "A", true),
+    ("C", "A", true),
+    ("C", "Instance", true),
+    ("A", "C", false),
+    ("S", "Static", true),
+    ("S", "Instance", false),
+    ("C", "Static", false),
+];
+
+/// Fields, and the region of each.
+const PLACES: [(&str, &str); 4] = [("n", "A"), ("k", "C"), ("s", "Static"), ("i", "Instance")];
+
+fn tree_of(alloc: Global, declared: &[Written], fields: &[Written]) -> Result<RegionTree, Fail> {
+    let declared = regions(alloc, declared)?;
+    let fields = puts(alloc, fields)?;
+    Ok(build(alloc, &declared, &fields)?)
+}
+
+fn assert_under(
+    rt: &(impl Abort + AllocGlobal),
+    tree: &RegionTree,
+    (a, b, want): (&str, &str, bool),
+) -> Result<(), Fail> {
+    let under = tree.region(&name(rt.alloc(), a)?).ok_or("no region")?;
+    let over = tree.region(&name(rt.alloc(), b)?).ok_or("no region")?;
+    assert_eq!(rt; tree.is_under(under, over), want, "{a} under {b}");
+    Ok(())
+}
+
+fn assert_place(
+    rt: &(impl Abort + AllocGlobal),
+    tree: &RegionTree,
+    (field, region): (&str, &str),
+) -> Result<(), Fail> {
+    let place = tree.region_of(&name(rt.alloc(), field)?).ok_or("no field")?;
+    let region = tree.region(&name(rt.alloc(), region)?).ok_or("no region")?;
+    assert!(rt; place == region, "where {field} is");
+    Ok(())
 }
 
 #[test]
 fn regions_are_under_their_parents(rt: HostRuntime) -> Result<(), Fail> {
     let alloc = rt.alloc();
-    let declared = regions(
-        alloc,
-        &[
-            ("C", Some("B"), false),
-            ("B", Some("A"), false),
-            ("A", None, false),
-            ("S", None, true),
-        ],
-    )?;
-    let fields = puts(
-        alloc,
-        &[
-            ("n", Some("A"), false),
-            ("k", Some("C"), false),
-            ("s", None, true),
-            ("i", None, false),
-        ],
-    )?;
-    let tree = build(alloc, &declared, &fields)?;
-    for (a, b, want) in [
-        ("A", "Instance", true),
-        ("Instance", "A", false),
-        ("A", "A", true),
-        ("C", "A", true),
-        ("C", "Instance", true),
-        ("A", "C", false),
-        ("S", "Static", true),
-        ("S", "Instance", false),
-        ("C", "Static", false),
-    ] {
-        let under = tree.region(&name(alloc, a)?).ok_or("no region")?;
-        let over = tree.region(&name(alloc, b)?).ok_or("no region")?;
-        assert_eq!(rt; tree.is_under(under, over), want, "{a} under {b}");
+    let tree = tree_of(alloc, &DECLARED, &FIELDS)?;
+    for case in UNDER {
+        assert_under(&rt, &tree, case)?;
     }
-    for (field, region) in [("n", "A"), ("k", "C"), ("s", "Static"), ("i", "Instance")] {
-        let place = tree.region_of(&name(alloc, field)?).ok_or("no field")?;
-        assert!(rt;
-            Some(place) == tree.region(&name(alloc, region)?),
-            "{field} in {region}"
-        );
+    for case in PLACES {
+        assert_place(&rt, &tree, case)?;
     }
     assert!(rt; tree.region(&name(alloc, "Q")?).is_none());
     assert!(rt; tree.region_of(&name(alloc, "m")?).is_none());
@@ -172,21 +196,18 @@ fn assert_added(
     Ok(())
 }
 
+const NESTED: [Written; 5] = [
+    ("A", None, false),
+    ("B", Some("A"), false),
+    ("C", Some("B"), false),
+    ("D", Some("A"), false),
+    ("E", Some("D"), false),
+];
+
 #[test]
 fn regions_that_overlap_are_not_added(rt: HostRuntime) -> Result<(), Fail> {
-    let alloc = rt.alloc();
-    let declared = regions(
-        alloc,
-        &[
-            ("A", None, false),
-            ("B", Some("A"), false),
-            ("C", Some("B"), false),
-            ("D", Some("A"), false),
-            ("E", Some("D"), false),
-        ],
-    )?;
-    let tree = build(alloc, &declared, &[])?;
-    let mut apart = DisjointRegions::new(alloc, &tree)?;
+    let tree = tree_of(rt.alloc(), &NESTED, &[])?;
+    let mut apart = DisjointRegions::new(rt.alloc(), &tree)?;
     assert_added(&rt, &tree, &mut apart, "B", true)?;
     assert_added(&rt, &tree, &mut apart, "A", false)?;
     assert_added(&rt, &tree, &mut apart, "C", false)?;

@@ -1,6 +1,5 @@
-use crate::fault::RegionFault;
-use crate::make::set_faulty_aside;
 use desk_base::Name;
+use region_scrub::{RegionFault, set_faulty_aside};
 use region_tree::RegionDecl;
 use std::alloc::Global;
 use std::process::Abort;
