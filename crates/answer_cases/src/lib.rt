@@ -9,6 +9,8 @@ mod forms;
 #[cfg(test)]
 mod judging;
 #[cfg(test)]
+mod keys;
+#[cfg(test)]
 mod records;
 #[cfg(test)]
 mod reports;
