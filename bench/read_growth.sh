@@ -5,12 +5,8 @@
 # an empty bundle, is taken off both), the bytes a second, and the peak memory a byte of text. Where there
 # is a javac, it also prints the bytes a second of `javac -proc:only -Xlint:none -Xdiags:compact`, which
 # parses the same files and enters their types without looking into bodies.
-set -eu
-top=$(CDPATH= cd -- "$(dirname -- "$0")/.." && pwd)
-program=$top/crates/promise_desk/out/promise_desk
-[ -x "$program" ] || (cd "$top/crates/promise_desk" && rt run -- check <stdin >&2)
-work=$(mktemp -d)
-trap 'rm -rf "$work"' EXIT
+. "$(dirname -- "$0")/common.sh"
+need_program
 files=4096
 
 # A file with so many methods.
@@ -45,19 +41,11 @@ bundle() {
     cat "$work/$1"/*.java | wc -c
 }
 
-# The least time of so many runs of a command, in milliseconds.
-least() {
+# In milliseconds, of so many rounds.
+milliseconds() {
     rounds=$1
     shift
-    best=
-    while [ "$rounds" -gt 0 ]; do
-        start=$(date +%s%N)
-        "$@" >/dev/null 2>&1 || true
-        took=$((($(date +%s%N) - start) / 1000000))
-        if [ -z "$best" ] || [ "$took" -lt "$best" ]; then best=$took; fi
-        rounds=$((rounds - 1))
-    done
-    echo "$best"
+    echo $(($(least "$rounds" 1 "$@") / 1000000))
 }
 
 check() {
@@ -68,9 +56,9 @@ small=$(bundle small 5)
 large=$(bundle large 11)
 printf 'end\n' >"$work/none"
 check "$work/large.bundle" || true
-none=$(least 20 check "$work/none")
-first=$(least 9 check "$work/small.bundle")
-second=$(least 9 check "$work/large.bundle")
+none=$(milliseconds 20 check "$work/none")
+first=$(milliseconds 9 check "$work/small.bundle")
+second=$(milliseconds 9 check "$work/large.bundle")
 echo "empty $none ms, $small bytes $first ms, $large bytes $second ms"
 echo "growth $(((second - none) * small * 200 / (first - none) / large)) (hundredths, for twice the bytes)"
 echo "bytes a second $((large * 1000 / (second - none)))"
@@ -82,6 +70,6 @@ PEAK
 )
 echo "peak memory $peak bytes, hundredths of a byte a byte of text: $((peak * 100 / large))"
 if command -v javac >/dev/null; then
-    parse=$(least 2 javac -proc:only -Xlint:none -Xdiags:compact -d "$work" "$work"/large/*.java)
+    parse=$(milliseconds 2 javac -proc:only -Xlint:none -Xdiags:compact -d "$work" "$work"/large/*.java)
     echo "javac bytes a second $((large * 1000 / parse))"
 fi

@@ -5,22 +5,9 @@
 # none is under another. For each it prints the least of several times for N and 2N regions, and their
 # ratio in hundredths: about 200 to 230 where the time is linear up to a logarithm, 400 where it is the
 # square.
-set -eu
-top=$(cd "$(dirname "$0")/.." && pwd)
-count=${1:-10000}
-work=$(mktemp -d)
-trap 'rm -rf "$work"' EXIT
-mkdir -p "$work/crates/region_growth/src"
-for name in desk_base region_tree region_scrub; do
-    mkdir "$work/crates/$name"
-    cp -r "$top/crates/$name/src" "$top/crates/$name/specs" "$work/crates/$name/"
-    if [ -d "$top/crates/$name/proofs" ]; then
-        cp -r "$top/crates/$name/proofs" "$work/crates/$name/"
-    fi
-    grep "^$name:" "$top/crates.txt" >> "$work/crates.txt"
-done
-echo "region_growth: desk_base region_tree region_scrub anyhow" >> "$work/crates.txt"
-cat > "$work/crates/region_growth/src/main.rt" <<'PROGRAM'
+. "$(dirname -- "$0")/common.sh"
+program_over region_growth desk_base region_tree region_scrub anyhow -- desk_base region_tree region_scrub
+cat > "$crate/src/main.rt" <<'PROGRAM'
 #![tactic(auto)]
 
 use anyhow::Result;
@@ -28,6 +15,7 @@ use desk_base::Name;
 use region_scrub::set_faulty_aside;
 use region_tree::{DisjointRegions, RegionDecl, build};
 use std::alloc::Global;
+use std::env;
 use std::time::Instant;
 
 #[derive(Clone, Copy)]
@@ -115,27 +103,44 @@ fn measured(rt: &HostRuntime, work: Work, shape: Shape, count: u32) -> Result<u6
     Ok(least)
 }
 
-fn told(rt: &HostRuntime, what: &str, work: Work, shape: Shape) -> Result<()> {
-    let once = measured(rt, work, shape, COUNT)?;
-    let twice = measured(rt, work, shape, COUNT * 2)?;
+fn told(rt: &HostRuntime, what: &str, work: Work, shape: Shape, count: u32) -> Result<()> {
+    let once = measured(rt, work, shape, count)?;
+    let twice = measured(rt, work, shape, count.saturating_mul(2))?;
     let ratio = twice.saturating_mul(100) / once.max(1);
     println!(rt; "{what}: microseconds {once} and {twice}, ratio in hundredths {ratio}")?;
     Ok(())
 }
 
+const SORTS: [(&str, Work, Shape); 7] = [
+    ("a chain is built", Work::Build, Shape::Chain),
+    ("none is faulty", Work::SetAside, Shape::Chain),
+    ("unknown parents", Work::SetAside, Shape::UnknownParents),
+    ("a chain into nothing", Work::SetAside, Shape::ChainIntoNothing),
+    ("faulty parents", Work::SetAside, Shape::FaultyParents),
+    ("added side by side", Work::Add, Shape::SideBySide),
+    ("added along a chain", Work::Add, Shape::Chain),
+];
+
+// The number that the program's word is.
+fn count_of(rt: &HostRuntime) -> Result<Option<u32>> {
+    match env::args(rt)?.nth(1) {
+        Some(word) => Ok(Some(word.parse()?)),
+        None => Ok(None),
+    }
+}
+
 fn main(rt: HostRuntime) -> Result<()> {
-    told(&rt, "a chain is built", Work::Build, Shape::Chain)?;
-    told(&rt, "none is faulty", Work::SetAside, Shape::Chain)?;
-    told(&rt, "unknown parents", Work::SetAside, Shape::UnknownParents)?;
-    told(&rt, "a chain into nothing", Work::SetAside, Shape::ChainIntoNothing)?;
-    told(&rt, "faulty parents", Work::SetAside, Shape::FaultyParents)?;
-    told(&rt, "added side by side", Work::Add, Shape::SideBySide)?;
-    told(&rt, "added along a chain", Work::Add, Shape::Chain)?;
+    let Some(count) = count_of(&rt)? else {
+        return Ok(());
+    };
+    for (what, work, shape) in SORTS {
+        told(&rt, what, work, shape, count)?;
+    }
     Ok(())
 }
 PROGRAM
-mkdir -p "$work/crates/region_growth/proofs/add_all"
-cat > "$work/crates/region_growth/proofs/add_all/Invariants.antt" <<'PROOF'
+mkdir -p "$crate/proofs/add_all"
+cat > "$crate/proofs/add_all/Invariants.antt" <<'PROOF'
 use Rattle.region_tree.specs.Disjoint.{AreOf}
 use Rattle.region_tree.specs.Tree.{parents_in}
 use Rattle.region_growth.proofs.add_all.Given as goal
@@ -143,6 +148,4 @@ use Rattle.region_growth.proofs.add_all.Given as goal
 abbrev pub invariant-loop-decl : goal.invariant-loop-decl
 invariant-loop-decl l = AreOf (parents_in l.tree) l.held
 PROOF
-sed -i "s/^fn name(alloc/const COUNT: u32 = $count;\n\n&/" "$work/crates/region_growth/src/main.rt"
-cd "$work/crates/region_growth"
-rt run
+run_built "${1:-10000}"

@@ -2,21 +2,12 @@
 # How the time to scrub a class grows with its annotations: a class of N regions, N fields in them and
 # N methods with three promises each, and one of 2N. It prints the least of several times for both,
 # and their ratio in hundredths: about 200 to 230 where the time is linear up to a logarithm, 400 where
-# it is the square. What is proved already isn't proved again.
-set -eu
-top=$(cd "$(dirname "$0")/.." && pwd)
-# A file of more than 900 wouldn't be read twice as large.
-count=${1:-900}
-work=$(mktemp -d)
-trap 'rm -rf "$work"' EXIT
-mkdir -p "$work/crates/scrub_growth/src"
-names="desk_base java_tree java_lexer java_phrases java_heads java_expressions java_statements java_members java_reader promise_grammar region_tree region_scrub class_faces promise_marks scrub_rules promise_scrub"
-for name in $names; do
-    cp -a "$top/crates/$name" "$work/crates/$name"
-    grep "^$name:" "$top/crates.txt" >> "$work/crates.txt"
-done
-echo "scrub_growth: desk_base java_tree java_reader promise_scrub sqlite_items anyhow" >> "$work/crates.txt"
-cat > "$work/crates/scrub_growth/src/main.rt" <<'PROGRAM'
+# it is the square.
+. "$(dirname -- "$0")/common.sh"
+program_over scrub_growth desk_base java_tree java_reader promise_scrub sqlite_items anyhow -- \
+    desk_base java_tree java_lexer java_phrases java_heads java_expressions java_statements java_members java_reader \
+    promise_grammar region_tree region_scrub class_faces promise_marks scrub_rules promise_scrub
+cat > "$crate/src/main.rt" <<'PROGRAM'
 #![tactic(auto)]
 
 use anyhow::{Result, anyhow};
@@ -24,6 +15,7 @@ use java_reader::read_file;
 use java_tree::FileTree;
 use promise_scrub::surface_of;
 use std::alloc::Global;
+use std::env;
 use std::time::Instant;
 
 // A class of so many regions, fields and methods.
@@ -55,7 +47,7 @@ fn measured(rt: &HostRuntime, count: u32) -> Result<u64> {
         return Err(anyhow!("there is no class"));
     };
     let mut least = u64::MAX;
-    for _round in 0..ROUNDS {
+    for _round in 0..40 {
         let start = Instant::now(rt)?;
         let surface = surface_of(rt.alloc(), class)?;
         let took = u64::try_from(start.elapsed(rt)?.as_micros()).unwrap_or(u64::MAX);
@@ -67,15 +59,26 @@ fn measured(rt: &HostRuntime, count: u32) -> Result<u64> {
     Ok(least)
 }
 
+// The number that the program's word is.
+fn count_of(rt: &HostRuntime) -> Result<Option<u32>> {
+    match env::args(rt)?.nth(1) {
+        Some(word) => Ok(Some(word.parse()?)),
+        None => Ok(None),
+    }
+}
+
 fn main(rt: HostRuntime) -> Result<()> {
-    let once = measured(&rt, COUNT)?;
-    let twice = measured(&rt, COUNT * 2)?;
-    println!(rt; "members {COUNT} microseconds {once}")?;
-    println!(rt; "members {} microseconds {twice}", COUNT * 2)?;
+    let Some(count) = count_of(&rt)? else {
+        return Ok(());
+    };
+    let double = count.saturating_mul(2);
+    let once = measured(&rt, count)?;
+    let twice = measured(&rt, double)?;
+    println!(rt; "members {count} microseconds {once}")?;
+    println!(rt; "members {double} microseconds {twice}")?;
     println!(rt; "ratio in hundredths {}", twice.saturating_mul(100) / once.max(1))?;
     Ok(())
 }
 PROGRAM
-sed -i "s/^\/\/ A class of/const COUNT: u32 = $count;\nconst ROUNDS: u32 = ${2:-40};\n\n&/" "$work/crates/scrub_growth/src/main.rt"
-cd "$work/crates/scrub_growth"
-rt run
+# A file of more than 900 wouldn't be read twice as large.
+run_built "${1:-900}"

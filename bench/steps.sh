@@ -3,21 +3,9 @@
 # configuration itself. It prints the least of several times of N and of 2N steps and their ratio in hundredths (about
 # 200 where a step costs the same throughout), and the ratio of N steps with 10,000 and with 10 objects in
 # the configuration (about 100 where a step costs nothing for objects that it doesn't touch).
-set -eu
-top=$(cd "$(dirname "$0")/.." && pwd)
-count=${1:-100000}
-work=$(mktemp -d)
-trap 'rm -rf "$work"' EXIT
-mkdir -p "$work/crates/loop_steps/src"
-for name in desk_base core_model; do
-    mkdir "$work/crates/$name"
-    cp -r "$top/crates/$name/src" "$top/crates/$name/specs" "$work/crates/$name/"
-    if [ -d "$top/crates/$name/proofs" ]; then
-        cp -r "$top/crates/$name/proofs" "$work/crates/$name/"
-    fi
-done
-printf 'desk_base: sqlite_items\ncore_model: desk_base sqlite_items\nloop_steps: core_model desk_base sqlite_items anyhow\n' > "$work/crates.txt"
-cat > "$work/crates/loop_steps/src/main.rt" <<'PROGRAM'
+. "$(dirname -- "$0")/common.sh"
+program_over loop_steps core_model desk_base sqlite_items anyhow -- desk_base core_model
+cat > "$crate/src/main.rt" <<'PROGRAM'
 #![tactic(auto)]
 
 use anyhow::Result;
@@ -28,6 +16,7 @@ use core_model::{
 use desk_base::{Name, Text};
 use sqlite_items::Items;
 use std::alloc::Global;
+use std::env;
 use std::time::Instant;
 
 const NOTE: Note = Note { place: 1, known: Known::Nothing };
@@ -72,7 +61,7 @@ fn measured(rt: &HostRuntime, steps: u32, objects: u32) -> Result<u64> {
     let alloc = rt.alloc();
     let program = program(alloc)?;
     let mut least = u64::MAX;
-    for _round in 0..ROUNDS {
+    for _round in 0..6 {
         let mut config = begin(alloc, &program, &[0])?;
         for _object in 0..objects {
             config.objects.push(Obj::new(ObjKind::Plain, Items::new(alloc)))?;
@@ -87,18 +76,28 @@ fn measured(rt: &HostRuntime, steps: u32, objects: u32) -> Result<u64> {
     Ok(least)
 }
 
+// The number that the program's word is.
+fn count_of(rt: &HostRuntime) -> Result<Option<u32>> {
+    match env::args(rt)?.nth(1) {
+        Some(word) => Ok(Some(word.parse()?)),
+        None => Ok(None),
+    }
+}
+
 fn main(rt: HostRuntime) -> Result<()> {
-    let once = measured(&rt, COUNT, 10)?;
-    let twice = measured(&rt, COUNT * 2, 10)?;
-    let many = measured(&rt, COUNT, 10_000)?;
-    println!(rt; "steps {COUNT} microseconds {once}")?;
-    println!(rt; "steps {} microseconds {twice}", COUNT * 2)?;
+    let Some(count) = count_of(&rt)? else {
+        return Ok(());
+    };
+    let double = count.saturating_mul(2);
+    let once = measured(&rt, count, 10)?;
+    let twice = measured(&rt, double, 10)?;
+    let many = measured(&rt, count, 10_000)?;
+    println!(rt; "steps {count} microseconds {once}")?;
+    println!(rt; "steps {double} microseconds {twice}")?;
     println!(rt; "ratio in hundredths {}", twice.saturating_mul(100) / once.max(1))?;
-    println!(rt; "steps {COUNT} with 10000 objects microseconds {many}")?;
+    println!(rt; "steps {count} with 10000 objects microseconds {many}")?;
     println!(rt; "ratio in hundredths {}", many.saturating_mul(100) / once.max(1))?;
     Ok(())
 }
 PROGRAM
-sed -i "s/^const NOTE/const COUNT: u32 = $count;\nconst ROUNDS: u32 = ${2:-6};\n\nconst NOTE/" "$work/crates/loop_steps/src/main.rt"
-cd "$work/crates/loop_steps"
-rt run
+run_built "${1:-100000}"
