@@ -27,9 +27,9 @@ check() {
     "$program" check <"$work/$1"
 }
 
-# In hundredths of a millisecond, of 20 rounds of 20 runs.
+# In hundredths of a millisecond, of 100 rounds of 10 runs.
 hundredths() {
-    echo $(($(least 20 20 "$@") / 10000))
+    echo $(($(least 100 10 "$@") / 10000))
 }
 
 bundle 210 >"$work/small"
