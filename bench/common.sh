@@ -55,9 +55,23 @@ program_over() {
     done
 }
 
+# Adds to that program the reading of the number that its word is.
+add_count_of() {
+    cat >>"$crate/src/main.rt" <<'RUST'
+
+fn count_of(rt: &HostRuntime) -> Result<Option<u32>> {
+    match std::env::args(rt)?.nth(1) {
+        Some(word) => Ok(Some(word.parse()?)),
+        None => Ok(None),
+    }
+}
+RUST
+}
+
 # Proves and builds that program, by a run of rt ci of its own, which takes what one in the repository proved
 # on this machine, and then runs it with these words. Without a word such a program does nothing.
 run_built() {
+    add_count_of
     (cd "$crate" && rt fmt >/dev/null)
     (cd "$work" && rt ci) >"$work/log" 2>&1 || {
         tail -n 40 "$work/log" >&2

@@ -15,7 +15,6 @@ use desk_base::Name;
 use region_scrub::set_faulty_aside;
 use region_tree::{DisjointRegions, RegionDecl, build};
 use std::alloc::Global;
-use std::env;
 use std::time::Instant;
 
 #[derive(Clone, Copy)]
@@ -120,14 +119,6 @@ const SORTS: [(&str, Work, Shape); 7] = [
     ("added side by side", Work::Add, Shape::SideBySide),
     ("added along a chain", Work::Add, Shape::Chain),
 ];
-
-// The number that the program's word is.
-fn count_of(rt: &HostRuntime) -> Result<Option<u32>> {
-    match env::args(rt)?.nth(1) {
-        Some(word) => Ok(Some(word.parse()?)),
-        None => Ok(None),
-    }
-}
 
 fn main(rt: HostRuntime) -> Result<()> {
     let Some(count) = count_of(&rt)? else {

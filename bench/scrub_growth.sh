@@ -15,7 +15,6 @@ use java_reader::read_file;
 use java_tree::FileTree;
 use promise_scrub::surface_of;
 use std::alloc::Global;
-use std::env;
 use std::time::Instant;
 
 // A class of so many regions, fields and methods.
@@ -57,14 +56,6 @@ fn measured(rt: &HostRuntime, count: u32) -> Result<u64> {
         least = least.min(took);
     }
     Ok(least)
-}
-
-// The number that the program's word is.
-fn count_of(rt: &HostRuntime) -> Result<Option<u32>> {
-    match env::args(rt)?.nth(1) {
-        Some(word) => Ok(Some(word.parse()?)),
-        None => Ok(None),
-    }
 }
 
 fn main(rt: HostRuntime) -> Result<()> {

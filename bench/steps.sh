@@ -16,7 +16,6 @@ use core_model::{
 use desk_base::{Name, Text};
 use sqlite_items::Items;
 use std::alloc::Global;
-use std::env;
 use std::time::Instant;
 
 const NOTE: Note = Note { place: 1, known: Known::Nothing };
@@ -74,14 +73,6 @@ fn measured(rt: &HostRuntime, steps: u32, objects: u32) -> Result<u64> {
         least = least.min(took);
     }
     Ok(least)
-}
-
-// The number that the program's word is.
-fn count_of(rt: &HostRuntime) -> Result<Option<u32>> {
-    match env::args(rt)?.nth(1) {
-        Some(word) => Ok(Some(word.parse()?)),
-        None => Ok(None),
-    }
 }
 
 fn main(rt: HostRuntime) -> Result<()> {
