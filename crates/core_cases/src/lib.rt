@@ -3,4 +3,12 @@
 #![tactic(auto)]
 
 #[cfg(test)]
-mod machine;
+mod blocks;
+#[cfg(test)]
+mod instructions;
+#[cfg(test)]
+mod program;
+#[cfg(test)]
+mod races;
+#[cfg(test)]
+mod running;
