@@ -1,0 +1,11 @@
+pub mod Rounding
+pub mod Counting
+pub mod Levels
+pub mod Takes
+pub mod Marks
+pub mod Leaving
+pub mod Rows
+pub mod Emptied
+pub mod Gone
+pub mod Numbering
+pub mod Orders

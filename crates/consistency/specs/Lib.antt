@@ -1,0 +1,4 @@
+pub mod Flat
+pub mod Numbers
+pub mod Steps
+pub mod Verdict
