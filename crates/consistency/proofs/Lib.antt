@@ -9,3 +9,10 @@ pub mod Emptied
 pub mod Gone
 pub mod Numbering
 pub mod Orders
+pub mod Keys
+pub mod Zips
+pub mod Flattening
+pub mod Judging
+pub mod Causes
+pub mod Blames
+pub mod Leaves

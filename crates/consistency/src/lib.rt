@@ -3,10 +3,18 @@
 //! about.
 #![tactic(auto)]
 
+mod causes;
 mod flat;
+mod follow;
 mod graph;
+mod numbers;
 mod rounds;
+mod solving;
+mod steps;
 mod verdict;
+mod verdicts;
 
-pub use graph::Graph;
+pub use graph::{Graph, graph_of};
+pub use solving::solve;
 pub use verdict::Verdict;
+pub use verdicts::Verdicts;

@@ -159,7 +159,7 @@ fn copied(alloc: Global, flags: &[bool]) -> Result<Vec<bool>, AllocError>
     flags.iter().copied().collect(alloc)
 }
 
-fn none_left(alloc: Global, count: u32) -> Result<Vec<Option<u32>>, OutOfMemory>
+pub(crate) fn none_left(alloc: Global, count: u32) -> Result<Vec<Option<u32>>, OutOfMemory>
     ensures { IfOk result (λ v. v.items ≡ replicate count None) }
 {
     let mut left = Vec::new(alloc);

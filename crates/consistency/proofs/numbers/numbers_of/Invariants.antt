@@ -1,5 +1,4 @@
 use Rattle.consistency.specs.Keys.{IndexesTo}
-use Rattle.consistency.proofs.Keys.{exact_keys}
 use Rattle.consistency.proofs.numbers.numbers_of.Given as goal
 
 abbrev pub invariant-loop-i : goal.invariant-loop-i

@@ -36,7 +36,7 @@ levels-init c =
       omega arith,
       c.in_ok-state.ensures.level,
       c.in_ok-state.ensures.taken,
-      rw (c.in_ok-extend_from_slice.ensures.items, c.new-order.ensures.empty, c.deref.ensures.value) (order_first g.promises s.left.items s.front.items first),
+      rw (c.in_ok-extend_from_slice.ensures.items, c.new-order.ensures.items, c.deref.ensures.value) (order_first g.promises s.left.items s.front.items first),
       by_first g.promises s.left.items s.front.items first,
     )
 
