@@ -13,6 +13,8 @@ pub mod Keys
 pub mod Zips
 pub mod Flattening
 pub mod Judging
-pub mod Causes
+pub mod Causing
 pub mod Blames
 pub mod Leaves
+pub mod Searching
+pub mod Standing

@@ -7,6 +7,7 @@ mod causes;
 mod flat;
 mod follow;
 mod graph;
+mod making;
 mod numbers;
 mod rounds;
 mod solving;
@@ -14,7 +15,8 @@ mod steps;
 mod verdict;
 mod verdicts;
 
-pub use graph::{Graph, graph_of};
+pub use graph::Graph;
+pub use making::graph_of;
 pub use solving::solve;
 pub use verdict::Verdict;
 pub use verdicts::Verdicts;

@@ -33,7 +33,12 @@ pub(crate) fn all_stay(left: &[Option<u32>], given: bool, round: u32, links: &[L
 pub(crate) fn is_lost_in(left: &[Option<u32>], given: bool, round: u32, clause: &Clause) -> bool
     ensures { result ≡ is_lost left.now given round clause.now }
 {
-    !clause.alternatives.iter().any(|links| all_stay(left, given, round, links))
+    for links in &clause.alternatives {
+        if all_stay(left, given, round, links) {
+            return false;
+        }
+    }
+    true
 }
 
 fn missing_link(left: &[Option<u32>], given: bool, round: u32, links: &[Link]) -> Option<Link>
@@ -69,9 +74,10 @@ pub(crate) fn leaf_step(con: &[Option<u32>], firm: &[Option<u32>], rounds: u32, 
     requires { rounds ≡ length con.now }
     ensures { result ≡ leaf_at con.now firm.now round (Some clause.now) }
 {
-    let way = clause.alternatives.iter().find(|links| all_stay(con, true, rounds, links));
-    match way {
-        None => None,
-        Some(links) => step_to(missing_link(firm, false, round, links)),
+    for links in &clause.alternatives {
+        if all_stay(con, true, rounds, links) {
+            return step_to(missing_link(firm, false, round, links));
+        }
     }
+    None
 }
