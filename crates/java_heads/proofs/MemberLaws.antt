@@ -55,7 +55,7 @@ unfolding named
 named-complete text v ts rest s is = rw (word-complete k.Name ts rest v s, same_bytes v.text text is) refl
 
 pub name_is : (text : List ℕ) (v : Lexeme) (ts rest : List Token) → Spelled k.Name v ts rest → v.text ≡ text → NameIs text ts rest
-name_is text v ts rest (t, e, is, stands) same = (t, e, is, ap (λ (u : Lexeme). u.name) stands ∙ same)
+name_is text v ts rest (t, e, is, stands) same = (t, e, is, ap (λ (u : Lexeme). u.text) stands ∙ same)
 
 pub is_name : (text : List ℕ) (ts rest : List Token) → NameIs text ts rest → (v : Lexeme) × (named text ts ≡ Found v rest)
 is_name text ts rest (t, e, is, same) = (word_of t, named-complete text (word_of t) ts rest (t, e, is, refl) same)
