@@ -39,7 +39,8 @@ use Rattle.java_heads.specs.declared.nest.Opened.TheVariants as opened
 use Rattle.java_heads.specs.declared.nest.Nest.{Nest}
 use Rattle.java_heads.specs.Modifiers.{may_have, must_have, same_word, is_access, words_that, kind_of}
 use Rattle.java_heads.specs.Annotation.{value_name, inner_annot}
-use Rattle.java_heads.specs.Spelling.{smallest_digits, object_name, string_name, runnable_name, thread_name, declared_as}
+use Rattle.java_phrases.specs.Texts.{smallest_digits, thread_name}
+use Rattle.java_heads.specs.Spelling.{object_name, string_name, runnable_name, declared_as}
 
 -- ---- lists
 

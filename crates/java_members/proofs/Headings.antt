@@ -15,14 +15,14 @@ use Rattle.java_tree.specs.declared.member.Ty.{Ty}
 use Rattle.java_tree.specs.declared.member.Ty.TheVariants as tree
 use Rattle.java_tree.specs.declared.member.Param.{Param}
 use Rattle.java_tree.specs.declared.member.Init.{Init}
-use Rattle.java_phrases.specs.Phrase.{Phrase, ◌⨾◌, ◌⊢◌, Mark, Spelled, Each}
+use Rattle.java_phrases.specs.Phrase.{Phrase, ◌⨾◌, ◌⊢◌, Mark, Spelled, Each, Named, Optional}
 use Rattle.java_phrases.specs.Parser.{Found, ◌>>=◌, pure, fail, next_kind, kind_at, same_kind, sees, sign, word}
 use Rattle.java_phrases.specs.Types.{TySpells, ty}
 use Rattle.java_phrases.proofs.Phrases.{and_then-some, pure-is, word-sound, word-complete, next-mark, next-word}
 use Rattle.java_phrases.proofs.TypeLaws.{ty-sound, ty-complete}
 use Rattle.java_heads.specs.declared.declaration.Declaration.TheVariants as of
 use Rattle.java_heads.specs.Modifiers.{kind_of, FitsAs}
-use Rattle.java_heads.specs.Spelling.{NameIs, Perhaps, ModSpells, Mods, Params, Throws, ResultSpells, InitPart, FieldParts, string_name}
+use Rattle.java_heads.specs.Spelling.{ModSpells, Mods, Params, Throws, ResultSpells, InitPart, FieldParts, string_name}
 use Rattle.java_heads.specs.Reading.{all_modifiers, fits, parameters, throws, perhaps, named, field_end}
 use Rattle.java_heads.proofs.Lists.{mark-sound, mark-complete, sees-kind}
 use Rattle.java_heads.proofs.ModifierLaws.{all_modifiers-sound, all_modifiers-complete, fits-sound, fits-complete, AfterMods, after-mods}
@@ -48,7 +48,7 @@ CtorHead class h = Mods of.Ctor h.mods ⨾ (h.name.text ≡ class) ⊢ Spelled k
 abbrev pub MainHead : MainHeading → Phrase
 MainHead h =
     Mods of.Main h.mods ⨾ Mark k.Void ⨾ (h.name.text ≡ main_name) ⊢ Spelled k.Name h.name
-    ⨾ Mark k.LParen ⨾ Perhaps k.Final h.final_word ⨾ NameIs string_name ⨾ Mark k.LBracket ⨾ Mark k.RBracket ⨾ Spelled k.Name h.param ⨾ Mark k.RParen
+    ⨾ Mark k.LParen ⨾ Optional (Sign k.Final) h.final_word ⨾ Named string_name ⨾ Mark k.LBracket ⨾ Mark k.RBracket ⨾ Spelled k.Name h.param ⨾ Mark k.RParen
     ⨾ Throws h.throws
 
 abbrev pub HeadingSpells : List ℕ → Heading → Phrase
@@ -254,7 +254,7 @@ name-calls : (name : Lexeme) (ts t1 rest : List Token) → Spelled k.Name name t
 unfolding calls_name stands kind_at
 name-calls name ts t1 rest (t, e, is, stood) (u, f, was) = rw (e, f, is, was) refl
 
-main-array : (final_word : Option Span) (ts t1 t2 t3 rest : List Token) → Mark k.LParen ts t1 → Perhaps k.Final final_word t1 t2 → NameIs string_name t2 t3 → Mark k.LBracket t3 rest → takes_array ts ≡ true
+main-array : (final_word : Option Span) (ts t1 t2 t3 rest : List Token) → Mark k.LParen ts t1 → Optional (Sign k.Final) final_word t1 t2 → Named string_name t2 t3 → Mark k.LBracket t3 rest → takes_array ts ≡ true
 unfolding takes_array stands kind_at
 main-array None ts t1 t2 t3 rest (t, e, is) none (u, f, was, text) (v, g, so) = let first : t1 ≡ u ∷ t3 = none ∙ f in rw (e, first, g, was, so) refl
 main-array (Some at) ts t1 t2 t3 rest (t, e, is) (u, f, was, stood) (v, g, so, text) (x, h, thus) = rw (e, f, g, h, was, so, thus) refl
@@ -303,7 +303,7 @@ ctor-complete class h ts rest (t1, (fit, s1), (same, (t2, s2, (t3, s3, s4)))) af
 next-name : (ts rest : List Token) (t : Token) → ts ≡ t ∷ rest → t.kind ≡ k.Name → next_kind ts ≡ Some k.Name
 next-name ts rest t e is = next-mark k.Name ts rest (t, e, is)
 
-main_end-complete : (h : MainHeading) (ts t4 t5 t6 t7 t8 t9 u1 rest : List Token) → FitsAs of.Main h.mods → h.name.text ≡ main_name → Mark k.LParen ts t4 → Perhaps k.Final h.final_word t4 t5 → NameIs string_name t5 t6 → Mark k.LBracket t6 t7 → Mark k.RBracket t7 t8
+main_end-complete : (h : MainHeading) (ts t4 t5 t6 t7 t8 t9 u1 rest : List Token) → FitsAs of.Main h.mods → h.name.text ≡ main_name → Mark k.LParen ts t4 → Optional (Sign k.Final) h.final_word t4 t5 → Named string_name t5 t6 → Mark k.LBracket t6 t7 → Mark k.RBracket t7 t8
     → Spelled k.Name h.param t8 t9 → Mark k.RParen t9 u1 → Throws h.throws u1 rest → AfterThrows rest → main_end h.mods h.name ts ≡ Found (heading.Main h) rest
 unfolding main_end
 main_end-complete h ts t4 t5 t6 t7 t8 t9 u1 rest fit same s4 s5 s6 s7 s8 s9 s10 s11 after =

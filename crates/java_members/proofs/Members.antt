@@ -12,7 +12,7 @@ use Rattle.java_phrases.specs.declared.tokens.Tokens.{Tokens}
 use Rattle.java_phrases.specs.Cursor.{ahead, from_start}
 use Rattle.java_phrases.specs.Parser.{Found, next_kind}
 use Rattle.java_phrases.proofs.Phrases.{next-sign}
-use Rattle.java_heads.specs.Answers.{Gives}
+use Rattle.java_phrases.specs.Answers.{Gives, Takes}
 use Rattle.java_heads.proofs.Parts.{ahead-same}
 use Rattle.java_heads.proofs.MemberLaws.{field_of}
 use Rattle.java_heads.proofs.ParameterLaws.{AfterThrows, after-throws}
@@ -23,7 +23,6 @@ use Rattle.java_members.specs.declared.heading.MethodHeading.{MethodHeading}
 use Rattle.java_members.specs.declared.heading.CtorHeading.{CtorHeading}
 use Rattle.java_members.specs.declared.heading.MainHeading.{MainHeading}
 use Rattle.java_members.specs.Spelling.{MemberParts, tokens_of, MemberSpells}
-use Rattle.java_members.specs.Answers.{Takes}
 use Rattle.java_members.specs.Parts.{Completes, Whole, member_with, method_of, ctor_of, main_of}
 use Rattle.java_members.proofs.Headings.{HeadingSpells, heading-sound, method-complete, ctor-complete, main-complete, field-complete}
 

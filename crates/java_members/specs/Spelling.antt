@@ -8,9 +8,9 @@ use Rattle.java_tree.specs.declared.member.Ctor.{Ctor}
 use Rattle.java_tree.specs.declared.member.Main.{Main}
 use Rattle.java_tree.specs.declared.member.MemberTree.{MemberTree}
 use Rattle.java_tree.specs.declared.member.MemberTree.TheVariants as member
-use Rattle.java_phrases.specs.Phrase.{Phrase, ◌⨾◌, ◌⊢◌, Never, Mark, Spelled}
+use Rattle.java_phrases.specs.Phrase.{Phrase, ◌⨾◌, ◌⊢◌, Never, Mark, Spelled, Named, Optional}
 use Rattle.java_heads.specs.declared.declaration.Declaration.TheVariants as of
-use Rattle.java_heads.specs.Spelling.{Kept, NameIs, Perhaps, Mods, Params, Throws, ResultSpells, FieldParts, string_name}
+use Rattle.java_heads.specs.Spelling.{Kept, Mods, Params, Throws, ResultSpells, FieldParts, string_name}
 use Rattle.java_statements.specs.Spelling.{BlockSpells}
 
 abbrev pub main_name : List ℕ
@@ -28,7 +28,7 @@ CtorParts class c = Mods of.Ctor c.mods ⨾ (c.name.text ≡ class) ⊢ Spelled 
 abbrev pub MainParts : Main → Phrase
 MainParts m =
     Mods of.Main m.mods ⨾ Mark k.Void ⨾ (m.name.text ≡ main_name) ⊢ Spelled k.Name m.name
-    ⨾ Mark k.LParen ⨾ Perhaps k.Final m.final_word ⨾ NameIs string_name ⨾ Mark k.LBracket ⨾ Mark k.RBracket ⨾ Spelled k.Name m.param ⨾ Mark k.RParen
+    ⨾ Mark k.LParen ⨾ Optional (Sign k.Final) m.final_word ⨾ Named string_name ⨾ Mark k.LBracket ⨾ Mark k.RBracket ⨾ Spelled k.Name m.param ⨾ Mark k.RParen
     ⨾ Throws m.throws ⨾ BlockSpells 64 m.body
 
 -- Field | Method | Ctor | Main

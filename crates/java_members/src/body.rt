@@ -3,7 +3,7 @@
 ghost use Rattle.std.specs.Prelude.{◌≡◌, OnOk};
 ghost use Rattle.java_phrases.specs.Cursor.{ahead, from_start};
 ghost use Rattle.java_statements.specs.Spelling.{BlockSpells};
-ghost use Rattle.java_members.specs.Answers.{Finds};
+ghost use Rattle.java_phrases.specs.Answers.{Finds};
 ghost use Rattle.java_members.specs.Parts.{Completes, Whole};
 
 use crate::heading::{CtorHeading, Heading, MainHeading, MethodHeading, member_heading};
