@@ -1,6 +1,6 @@
 -- Which tokens spell which member of a class: one definition for each production (JLS 8, 8.4, 8.8,
 -- 12.1.4, as far as the subset goes).
-use Rattle.std.specs.Prelude.{◌≡◌, ℕ, List, codes}
+use Rattle.std.specs.Prelude.{◌≡◌, ℕ, List}
 use Rattle.java_tree.specs.declared.kind.Kind.TheVariants as k
 use Rattle.java_tree.specs.declared.token.Token.{Token}
 use Rattle.java_tree.specs.declared.member.Method.{Method}
@@ -11,10 +11,8 @@ use Rattle.java_tree.specs.declared.member.MemberTree.TheVariants as member
 use Rattle.java_phrases.specs.Phrase.{Phrase, ◌⨾◌, ◌⊢◌, Never, Mark, Spelled, Named, Optional}
 use Rattle.java_heads.specs.declared.declaration.Declaration.TheVariants as of
 use Rattle.java_heads.specs.Spelling.{Kept, Mods, Params, Throws, ResultSpells, FieldParts, string_name}
+use Rattle.java_heads.specs.Headings.{main_name}
 use Rattle.java_statements.specs.Spelling.{BlockSpells}
-
-abbrev pub main_name : List ℕ
-main_name = codes "main"
 
 -- Method = Mods (Ty | "void") Name Params [Throws] Block
 abbrev pub MethodParts : Method → Phrase
