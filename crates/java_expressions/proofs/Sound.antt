@@ -121,7 +121,7 @@ class_by : (w v : Lexeme) (ts mid rest : List Token) (b : Bool) → Spelled k.Na
     → cond b fail (pure w) mid ≡ Found v rest → (v.text ≢ thread_name) × Spelled k.Name v ts rest
 class_by w v ts mid rest true s is e = cc
 class_by w v ts mid rest false s is e =
-    pure-is (λ y r. (y.name ≢ thread_name) × Spelled k.Name y ts r) w v mid rest e (not_bytes false w.text thread_name is refl, s)
+    pure-is (λ y r. (y.text ≢ thread_name) × Spelled k.Name y ts r) w v mid rest e (not_bytes false w.text thread_name is refl, s)
 
 class_name-sound : (ts rest : List Token) (v : Lexeme) → class_name ts ≡ Found v rest → (v.text ≢ thread_name) × Spelled k.Name v ts rest
 unfolding class_name

@@ -15,7 +15,7 @@ use Rattle.java_tree.specs.declared.member.Ty.{Ty}
 use Rattle.java_tree.specs.declared.member.Ty.TheVariants as tree
 use Rattle.java_tree.specs.declared.member.Param.{Param}
 use Rattle.java_tree.specs.declared.member.Init.{Init}
-use Rattle.java_phrases.specs.Phrase.{Phrase, ◌⨾◌, ◌⊢◌, Mark, Spelled, Each, Named, Optional}
+use Rattle.java_phrases.specs.Phrase.{Phrase, ◌⨾◌, ◌⊢◌, Mark, Sign, Spelled, Each, Named, Optional}
 use Rattle.java_phrases.specs.Parser.{Found, Lost, ◌>>=◌, pure, fail, next_kind, kind_at, same_kind, sees, sign, word}
 use Rattle.java_phrases.specs.Types.{TySpells, ty}
 use Rattle.java_phrases.specs.declared.error.SyntaxError.{SyntaxError}

@@ -11,7 +11,7 @@ use Rattle.java_tree.specs.declared.file.Package.{Package}
 use Rattle.java_tree.specs.declared.file.Import.{Import}
 use Rattle.java_tree.specs.declared.file.TypeKind.{TypeKind}
 use Rattle.java_tree.specs.declared.file.TypeKind.TheVariants as sort
-use Rattle.java_phrases.specs.Phrase.{Mark, Spelled, Each, Optional}
+use Rattle.java_phrases.specs.Phrase.{Mark, Sign, Spelled, Each, Optional}
 use Rattle.java_phrases.specs.Parser.{Found, ◌>>=◌, pure, fail, next_kind, kind_at, sees, sign, word}
 use Rattle.java_phrases.proofs.Phrases.{and_then-some, pure-is, is_same, sign-sound, sign-complete, word-sound, word-complete, next-sign, next-mark}
 use Rattle.java_heads.specs.declared.header.Header.{Header}

@@ -240,9 +240,7 @@ pub fn read_heading(
     class_name: &Name,
 ) -> Result<Heading, SyntaxError>
     ensures found { IfOk result (λ h. HeadingSpells class_name.now h (ahead tokens.old) (ahead tokens.new)) }
-    ensures only {
-        (h : Heading) (rest : List Token) → HeadingSpells class_name.now h (ahead tokens.old) rest → BodyFollows h rest → Gives result (ahead tokens.new) h rest
-    }
+    ensures only { (h : Heading) (rest : List Token) → HeadingSpells class_name.now h (ahead tokens.old) rest → BodyFollows h rest → Gives result (ahead tokens.new) h rest }
     ensures kept { OnOk result (from_start tokens.new ≡ from_start tokens.old) }
 {
     member_heading(alloc, tokens, class_name)

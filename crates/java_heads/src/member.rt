@@ -34,7 +34,11 @@ fn negative(alloc: Global, tokens: &mut Tokens) -> Result<Init, SyntaxError>
 
 /// Reads a name that is written so.
 #[tactic(auto, unfolding(crate::specs::Reading::named))]
-pub(crate) fn read_named(alloc: Global, tokens: &mut Tokens, text: &[u8]) -> Result<Lexeme, SyntaxError>
+pub(crate) fn read_named(
+    alloc: Global,
+    tokens: &mut Tokens,
+    text: &[u8],
+) -> Result<Lexeme, SyntaxError>
     ensures { Steps (spec.named text.now) tokens.old result tokens.new }
 {
     let name = tokens.word(alloc, Kind::Name)?;

@@ -95,7 +95,10 @@ fn more_modifiers(
 
 /// Reads modifiers up to what none begins with, whichever words they are.
 #[tactic(auto, unfolding(crate::specs::Reading::all_modifiers))]
-pub(crate) fn read_all_modifiers(alloc: Global, tokens: &mut Tokens) -> Result<Items<Mod>, SyntaxError>
+pub(crate) fn read_all_modifiers(
+    alloc: Global,
+    tokens: &mut Tokens,
+) -> Result<Items<Mod>, SyntaxError>
     ensures { Steps spec.all_modifiers tokens.old result tokens.new }
 {
     more_modifiers(alloc, tokens, Items::new(alloc))

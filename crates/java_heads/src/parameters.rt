@@ -66,7 +66,10 @@ fn some_parameters(alloc: Global, tokens: &mut Tokens) -> Result<Items<Param>, S
 
 /// Reads parameters in parentheses, at most 255 (JLS 8, 8.4.1).
 #[tactic(auto, unfolding(crate::specs::Reading::parameters))]
-pub(crate) fn read_parameters(alloc: Global, tokens: &mut Tokens) -> Result<Items<Param>, SyntaxError>
+pub(crate) fn read_parameters(
+    alloc: Global,
+    tokens: &mut Tokens,
+) -> Result<Items<Param>, SyntaxError>
     ensures { Steps spec.parameters tokens.old result tokens.new }
 {
     tokens.sign(Kind::LParen)?;
@@ -122,7 +125,10 @@ fn some_throws(alloc: Global, tokens: &mut Tokens) -> Result<Items<Items<Lexeme>
 
 /// Reads `throws` and what it names, if it stands next (JLS 8, 8.4.6).
 #[tactic(auto, unfolding(crate::specs::Reading::throws))]
-pub(crate) fn read_throws(alloc: Global, tokens: &mut Tokens) -> Result<Items<Items<Lexeme>>, SyntaxError>
+pub(crate) fn read_throws(
+    alloc: Global,
+    tokens: &mut Tokens,
+) -> Result<Items<Items<Lexeme>>, SyntaxError>
     ensures { Steps spec.throws tokens.old result tokens.new }
 {
     if tokens.sees(Kind::Throws) {

@@ -25,7 +25,6 @@ use Rattle.java_heads.specs.declared.heading.MainHeading.{MainHeading}
 use Rattle.java_members.specs.Spelling.{MemberParts, tokens_of, MemberSpells}
 use Rattle.java_members.specs.Parts.{Completes, Whole, member_with, method_of, ctor_of, main_of}
 
-
 -- ---- bodies
 
 block-first : (limit : ℕ) (b : Block) (ts rest : List Token) → BlockSpells limit b ts rest → next_kind ts ≡ Some k.LBrace

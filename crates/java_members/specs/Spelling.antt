@@ -8,7 +8,7 @@ use Rattle.java_tree.specs.declared.member.Ctor.{Ctor}
 use Rattle.java_tree.specs.declared.member.Main.{Main}
 use Rattle.java_tree.specs.declared.member.MemberTree.{MemberTree}
 use Rattle.java_tree.specs.declared.member.MemberTree.TheVariants as member
-use Rattle.java_phrases.specs.Phrase.{Phrase, ◌⨾◌, ◌⊢◌, Never, Mark, Spelled, Named, Optional}
+use Rattle.java_phrases.specs.Phrase.{Phrase, ◌⨾◌, ◌⊢◌, Never, Mark, Sign, Spelled, Named, Optional}
 use Rattle.java_heads.specs.declared.declaration.Declaration.TheVariants as of
 use Rattle.java_heads.specs.Spelling.{Kept, Mods, Params, Throws, ResultSpells, FieldParts, string_name}
 use Rattle.java_heads.specs.Headings.{main_name}

@@ -33,7 +33,7 @@ use Rattle.java_phrases.specs.Texts.{thread_name}
 use Rattle.java_expressions.specs.Spelling.{Layered, Spells, ExprSpells}
 use Rattle.java_expressions.specs.Reading.{tall, expr, post_read, operator}
 use Rattle.java_expressions.proofs.Sound.{expr-sound}
-use Rattle.java_expressions.proofs.Complete.{Closed, closed-by, sees-kind, Finds, same-tree}
+use Rattle.java_expressions.proofs.Complete.{Closed, closed-by, sees-kind, FindsTall, same-tree}
 use Rattle.java_expressions.proofs.Chains.{expr-complete, post-complete}
 use Rattle.java_statements.specs.Spelling.{sign_of_assign, sign_of_step, start_name, is_call, is_new, TargetBy, TargetSpells, ActionSpells, LocalSpells, Condition, FirstSpells, ForHeadSpells, MonitorSpells, DeclarationSpells}
 use Rattle.java_statements.specs.Reading.{named, value, condition, is_target_by, is_target, target, assigned, stepped, called_by, called, posted_by, posted, step_before, start, action_by, action_within, action_read, final_read, local, declaration_within, declaration, for_first, value_if, for_last, for_open, for_test, for_close, for_rest, for_head, class_monitor, monitor_read, sync_head, begins_local, names_class}
@@ -70,7 +70,7 @@ condition-complete room e ts rest (t1, m1, (t2, s, m2)) =
 
 -- ---- targets
 
-posts-complete : (limit m : ℕ) (e : Expr) (ts rest : List Token) → m ≤ limit → Spells m 8 e ts rest → sees k.Dot rest ≡ false → sees k.LParen rest ≡ false → Finds m (post_read limit ts) e rest
+posts-complete : (limit m : ℕ) (e : Expr) (ts rest : List Token) → m ≤ limit → Spells m 8 e ts rest → sees k.Dot rest ≡ false → sees k.LParen rest ≡ false → FindsTall m (post_read limit ts) e rest
 unfolding post_read Spells
 posts-complete zero zero e ts rest fits s stop free = absurd s
 posts-complete zero (suc m) e ts rest fits s stop free = absurd (omega arith)
