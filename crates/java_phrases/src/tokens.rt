@@ -93,33 +93,33 @@ impl Tokens {
         }
     }
 
-    /// Reads a token of this kind, and answers where it stands.
+    /// Reads a token of this kind, and answers where it stands. A token of another kind stays ahead.
     #[tactic(auto, unfolding(crate::specs::Parser::sign))]
     pub fn sign(&mut self, kind: Kind) -> Result<Span, SyntaxError>
         ensures { Steps (spec.sign kind) self.old result self.new }
     {
+        if !self.sees(kind) {
+            return Err(SyntaxError::NotSpelled);
+        }
         let Some(token) = self.take() else {
             return Err(SyntaxError::NotSpelled);
         };
-        if token.kind != kind {
-            return Err(SyntaxError::NotSpelled);
-        }
         let span = token.span;
         self.taken.push(token)?;
         Ok(span)
     }
 
-    /// Reads a name or a literal.
+    /// Reads a name or a literal. A token of another kind stays ahead.
     #[tactic(auto, unfolding(crate::specs::Parser::word))]
     pub fn word(&mut self, alloc: Global, kind: Kind) -> Result<Lexeme, SyntaxError>
         ensures { Steps (spec.word kind) self.old result self.new }
     {
+        if !self.sees(kind) {
+            return Err(SyntaxError::NotSpelled);
+        }
         let Some(token) = self.take() else {
             return Err(SyntaxError::NotSpelled);
         };
-        if token.kind != kind {
-            return Err(SyntaxError::NotSpelled);
-        }
         let name = Name::from_slice(alloc, token.bytes.as_slice())?;
         let word = Lexeme {
             text: name,
