@@ -1,7 +1,8 @@
 -- The temporaries of calls come from where is known.
-use Rattle.std.proofs.Common.{◌≡◌, ◌≢◌, ℕ, zero, suc, ◌+◌, ◌==◌, ◌||◌, ◌&&◌, not, ⊎_elim, Bool, true, false, if◌then◌else◌, List, [], ◌∷◌, ◌++◌, Option, Some, None, length, slice_get, slice_set, take, drop, reverse, refl, sym, ap, ◌∙◌, subst, arith, length-append, length-drop, length-reverse}
+use Rattle.std.proofs.Common.{◌≡◌, ◌≢◌, ℕ, zero, suc, ◌+◌, ◌==◌, ◌||◌, ◌&&◌, not, ⊎_elim, Bool, true, false, if◌then◌else◌, List, [], ◌∷◌, ◌++◌, Option, Some, None, length, slice_get, slice_set, take, drop, reverse, refl, sym, ap, ◌∙◌, subst, arith, length-append, length-drop}
 use Rattle.std.specs.Option.{option_to_list}
 use Rattle.std.proofs.lemmas.Bool.Decides.{eqb_tells}
+use Rattle.std.proofs.lemmas.List.{length-reverse}
 use Rattle.core_model.specs.Code.{Code, Done, Do, If, While, Enter, EnterClass, Exit, ◌⧺◌}
 use Rattle.core_model.specs.Objects.{field_at}
 use Rattle.core_model.specs.Operators.{operated, negated}
@@ -373,10 +374,10 @@ module _ (p : Program) (T : Types) (O : Operands) (program : ProgramFits p T) (t
       (static-gives p T program (unit_number p d m a) u (m == NEW) (need p T (of_unit T c.unit) k []) e s)
       (waits c n (plain.CallStatic d m a) k a (O c.unit n.place) (unknown (gives_of (unless_new m (called_static T (unit_number p d m a))))) g g.placed.fits.0 g.temps)
 
-  abbrev Known : List Obj → ℕ → Mode → List Call → Type 0
-  Known os t m cs = CallsFit p T os m cs
+  abbrev Typed : List Obj → ℕ → Mode → List Call → Type 0
+  Typed os t m cs = CallsFit p T os m cs
 
-  stepwise : IsStepwise p Known (λ os t m cs. Comes m cs) (λ s os ns. Unit {0})
+  stepwise : IsStepwise p Typed (λ os t m cs. Comes m cs) (λ s os ns. Unit {0})
   stepwise = record {
     same = λ t os. tt;
     stays = λ s t os ns m cs ne r g z. g;
@@ -550,8 +551,8 @@ module _ (p : Program) (T : Types) (O : Operands) (program : ProgramFits p T) (t
     drops_last = λ os t c f e z. tt;
   }
 
-  known : (c : Config) → ConfigFits p T c → (t : ℕ) → Known c.objects t (or_over (slice_get c.threads t)).mode (or_over (slice_get c.threads t)).calls
-  known c w t = threads-each (λ (x : Thread). ThreadFits p T c.objects x) c.threads t tt w.threads
+  typed : (c : Config) → ConfigFits p T c → (t : ℕ) → Typed c.objects t (or_over (slice_get c.threads t)).mode (or_over (slice_get c.threads t)).calls
+  typed c w t = threads-each (λ (x : Thread). ThreadFits p T c.objects x) c.threads t tt w.threads
 
   pub come : (mains schedule : List ℕ) → Each (λ c. has p.mains c ≡ true) mains → (t : ℕ) (call : Call) (below : List Call)
       → slice_get (run p (begin p mains) schedule).threads t ≡ Some (record { calls = call ∷ below; mode = mode.Running })
@@ -559,8 +560,8 @@ module _ (p : Program) (T : Types) (O : Operands) (program : ProgramFits p T) (t
   come mains schedule h t call below there =
       let G : List Obj → ℕ → Mode → List Call → Type 0 = λ os s m cs. Comes m cs in
       let R : ℕ → List Obj → List Obj → Type 0 = λ s os ns. Unit {0} in
-      (found p Known G R stepwise (run p (begin p mains) schedule) t (record { calls = call ∷ below; mode = mode.Running }) there
-      (always p Known G R stepwise (ConfigFits p T) (step-fits p T) known mains schedule (begin-fits p T program mains h))).0.temps
+      (found p Typed G R stepwise (run p (begin p mains) schedule) t (record { calls = call ∷ below; mode = mode.Running }) there
+      (always p Typed G R stepwise (ConfigFits p T) (step-fits p T) typed mains schedule (begin-fits p T program mains h))).0.temps
 
 origin-at : (ls ts : List Value) (os : List Origin) (j x : ℕ) (v : Value) → HaveOrigins ls ts os → slice_get os j ≡ Some (Some x) → slice_get ts j ≡ Some v
     → slice_get ls x ≡ Some v
