@@ -209,7 +209,7 @@ awaited-long T os m None ts takes gives ns s e h w =
       all-long T os ts (takes ++ drop (length gives) ns) h,
       length-append takes (drop (length gives) ns),
       all-long T os (drop m ts) ns w,
-      length-drop ts m,
+      length-drop m ts,
     )
 awaited-long T os m (Some t) ts takes gives [] s e h w = absurd w
 awaited-long T os m (Some t) ts takes gives (n ∷ ns) s e h w =
@@ -220,7 +220,7 @@ awaited-long T os m (Some t) ts takes gives (n ∷ ns) s e h w =
       all-long T os ts (takes ++ drop (length gives) (n ∷ ns)) h,
       length-append takes (drop (length gives) (n ∷ ns)),
       all-long T os (drop m ts) ns w.1,
-      length-drop ts m,
+      length-drop m ts,
     )
 
 by-use : (T : Types) (os : List Obj) (m : ℕ) (r : Option Ty) (ts : List Value) (x : Use Ty) (ns : List Ty) → goes_on_with x ≡ true
@@ -346,6 +346,12 @@ module _ (p : Program) (T : Types) (O : Operands) (program : ProgramFits p T) (t
   back u (Object r) d os v h w =
       record { placed = w.placed; temps = one-more d.locals (value.Ref r) d.temps None (origins p T O d.unit d.rest) tt w.suits w.temps }
 
+  -- a value that is pushed changes nothing for those beneath
+  resume : (d : Call) (o : Option Value) (cs : List Call) → Waiting (results d.unit d.gives) cs
+      → Waiting (results (with_given d o).unit (with_given d o).gives) cs
+  resume d None cs h = h
+  resume d (Some v) cs h = h
+
   done-result : (os : List Obj) (r : Option Ty) (known : Bool) → Returns r known Done → ResultFits T os r None
   done-result os None known h = tt
   done-result os (Some t) known h = absurd (let no : ⊥ = cc in no)
@@ -445,15 +451,15 @@ module _ (p : Program) (T : Types) (O : Operands) (program : ProgramFits p T) (t
     constructs = λ os t c n d a k info u code cs f l e w x. (
       tt,
       λ z. (
-        begun-top u code _ (Object (length os)) x,
+        begun-top u code (value.Ref (length os) ∷ reverse (take a c.temps)) (Object (length os)) x,
         (waits c n (plain.Make d a) k a (O c.unit n.place) (None ∷ []) f.1.0 f.1.0.placed.fits.0 f.1.0.temps, f.1.1),
       ),
     );
     makes_lost = λ os t c n d a k info u cs f e w x. (tt, λ z. tt);
     calls = λ os t c n m a k r d u code cs f l e w x y z.
-        (begun-top u code _ Own y, (called-waits os c n m a k u f.1.0 f.0.0.0.fits.0 f.0.0.1 z.1.1, f.1.1));
+        (begun-top u code (reverse (take (a + 1) c.temps)) Own y, (called-waits os c n m a k u f.1.0 f.0.0.0.fits.0 f.0.0.1 z.1.1, f.1.1));
     calls_static = λ os t c n d m a k u code cs f l x y z.
-        (begun-top u code _ Own y, (static-waits c n d m a k u f.1.0 f.0.0.0.fits.0 x, f.1.1));
+        (begun-top u code (reverse (take a c.temps)) Own y, (static-waits c n d m a k u f.1.0 f.0.0.0.fits.0 x, f.1.1));
     starts_none = λ os t c n k ts cs f e z. (
       record {
         placed = next c.unit n plain.Start k f.1.0.placed;
@@ -541,10 +547,10 @@ module _ (p : Program) (T : Types) (O : Operands) (program : ProgramFits p T) (t
     returns = λ os t c n k cs f z. f.1.1;
     returns_value = λ os t c n k v ts cs f e z. f.1.1;
     done = λ os t c d cs f z.
-        (back c.unit c.gives d os None (done-result os (of_unit T c.unit).result (true_on_top c.temps) f.0.0.0.returns) f.1.1.0, f.1.1.1);
+        (back c.unit c.gives d os None (done-result os (of_unit T c.unit).result (true_on_top c.temps) f.0.0.0.returns) f.1.1.0, resume d (given c.gives None) cs f.1.1.1);
     done_last = λ os t c f z. tt;
     gives_up = λ os t v c r k cs f e. (tt, λ z. f.1);
-    leaves = λ os t v c d cs f e z. (back c.unit c.gives d os v f.0.0 f.1.0, f.1.1);
+    leaves = λ os t v c d cs f e z. (back c.unit c.gives d os v f.0.0 f.1.0, resume d (given c.gives v) cs f.1.1);
     leaves_last = λ os t v c f e z. tt;
     unwinds = λ os t c r k cs f e. (tt, λ z. tt);
     drops = λ os t c d cs f e z. tt;
