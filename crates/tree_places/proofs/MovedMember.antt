@@ -203,16 +203,16 @@ module _ (place : Span → Span) where
       then moves-lexeme k.Name m.param then moves-mark k.RParen then moves-throws m.throws then moves-block place 64 m.body)
   parts class (member.Sig s) = moves-never _
 
-  pub tokens_stay : (m : MemberTree) → tokens_of (moved_member place m) ≡ moved_tokens place (tokens_of m)
-  tokens_stay (member.Field f) = refl
-  tokens_stay (member.Method m) = refl
-  tokens_stay (member.Ctor c) = refl
-  tokens_stay (member.Main m) = refl
-  tokens_stay (member.Sig s) = refl
+  pub moved-tokens_of : (m : MemberTree) → tokens_of (moved_member place m) ≡ moved_tokens place (tokens_of m)
+  moved-tokens_of (member.Field f) = refl
+  moved-tokens_of (member.Method m) = refl
+  moved-tokens_of (member.Ctor c) = refl
+  moved-tokens_of (member.Main m) = refl
+  moved-tokens_of (member.Sig s) = refl
 
   pub moves-member : (class : List ℕ) (m : MemberTree) → Moves place (MemberSpells class m) (MemberSpells class (moved_member place m))
   moves-member class m =
-      subst (λ l. Moves place (MemberSpells class m) (Kept l (MemberParts class (moved_member place m)))) (sym (tokens_stay m)) (moves-kept (tokens_of m) (parts class m))
+      subst (λ l. Moves place (MemberSpells class m) (Kept l (MemberParts class (moved_member place m)))) (sym (moved-tokens_of m)) (moves-kept (tokens_of m) (parts class m))
 
   moves-implements : (kind : TypeKind) (names : List Lexeme) → Moves place (Implements kind names) (Implements kind (moved_lexemes place names))
   moves-implements kind [] = moves-nothing

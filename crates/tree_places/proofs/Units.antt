@@ -18,9 +18,12 @@ use Rattle.java_reader.specs.Places.{MembersFollow, TypeFollows, TypesFollow}
 use Rattle.java_reader.specs.Reads.{Reads}
 use Rattle.java_reader.specs.Spelling.{TypeMember, header_of, TypeSpells}
 use Rattle.tree_places.specs.MovedMember.{moved_member, moved_header}
+use Rattle.tree_places.specs.Bare.{nowhere, bare_member, bare_header}
 use Rattle.tree_places.specs.Numbers.{numbered_member, numbered_header, placed_member, placed_header}
 use Rattle.tree_places.specs.Units.{HasHeader, HasMember}
 use Rattle.tree_places.proofs.Kept as kept
+use Rattle.tree_places.proofs.Alike.{alike_from_moved}
+use Rattle.tree_places.proofs.MovedMember.{moved-tokens_of}
 use Rattle.tree_places.proofs.Numbers.{Rising}
 use Rattle.tree_places.proofs.Parts.{Anything, members_keep, HeaderAlone, Braced, header_tokens, headers_keep}
 
@@ -115,3 +118,19 @@ pub placed-header : PartsFollow → OneTree HeaderSpells → (text : List ℕ) (
 placed-header follow one text h has =
     let a = header_stands follow text h has in
     kept.placed HeaderAlone header_tokens moved_header Braced (headers_keep one) h a.ts a.rest a.from a.behind a.spelled a.rising
+
+-- ---- units without their places
+
+pub alike_members : (kind : TypeKind) (name : List ℕ) (m n : MemberTree) (ts rest us left : List Token) → TypeMember kind name m ts rest → TypeMember kind name n us left
+    → Alike (tokens_of m) (tokens_of n) → bare_member m ≡ bare_member n
+alike_members kind name = kept.bare (TypeMember kind name) tokens_of moved_member Anything (members_keep kind name)
+
+pub alike_headers : OneTree HeaderSpells → (g h : Header) (ts rest us left : List Token) → HeaderSpells g ts rest → HeaderSpells h us left → Alike g.tokens h.tokens → bare_header g ≡ bare_header h
+alike_headers one g h ts rest us left (mid, s, brace) (end, t, other) =
+    kept.bare HeaderAlone header_tokens moved_header Braced (headers_keep one) g h ts mid us end s t
+
+pub tokens_of_members : (m n : MemberTree) → bare_member m ≡ bare_member n → Alike (tokens_of m) (tokens_of n)
+tokens_of_members m n same = alike_from_moved (tokens_of m) (tokens_of n) (sym (moved-tokens_of nowhere m) ∙ ap tokens_of same ∙ moved-tokens_of nowhere n)
+
+pub tokens_of_headers : (g h : Header) → bare_header g ≡ bare_header h → Alike g.tokens h.tokens
+tokens_of_headers g h same = alike_from_moved g.tokens h.tokens (ap header_tokens same)
