@@ -34,11 +34,11 @@ fn tokens_of(member: &MemberTree) -> usize {
 
 fn name_of(member: &MemberTree) -> &[u8] {
     match member {
-        MemberTree::Field(field) => field.name.name.as_slice(),
-        MemberTree::Method(method) => method.name.name.as_slice(),
-        MemberTree::Sig(sig) => sig.name.name.as_slice(),
-        MemberTree::Ctor(ctor) => ctor.name.name.as_slice(),
-        MemberTree::Main(main) => main.name.name.as_slice(),
+        MemberTree::Field(field) => field.name.text.as_slice(),
+        MemberTree::Method(method) => method.name.text.as_slice(),
+        MemberTree::Sig(sig) => sig.name.text.as_slice(),
+        MemberTree::Ctor(ctor) => ctor.name.text.as_slice(),
+        MemberTree::Main(main) => main.name.text.as_slice(),
     }
 }
 
@@ -54,7 +54,7 @@ fn put_class(out: &mut String, class: &ClassTree) -> Result<()> {
         TypeKind::Class => "; class ",
         TypeKind::Interface => "; interface ",
     })?;
-    put_bytes(out, class.name.name.as_slice())?;
+    put_bytes(out, class.name.text.as_slice())?;
     let (at, mods, tokens) = (class.name.span.start, class.mods.len(), class.tokens.len());
     write!(out, " at {at} with {mods} modifiers, of {tokens} tokens")?;
     for member in class.members.as_slice() {

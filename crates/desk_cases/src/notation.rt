@@ -88,6 +88,7 @@ pub(crate) fn put_answer(out: &mut String, answer: &str) -> Result<()> {
     }
     let (shown, end) = match answer.strip_suffix(' ') {
         Some(shown) => (shown, "~s"),
+        None if answer.is_empty() => ("", "~."),
         None => (answer, ""),
     };
     for sign in shown.chars() {

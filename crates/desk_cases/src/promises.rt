@@ -123,6 +123,7 @@ fn put_member(out: &mut String, member: &MemberContent) -> Result<()> {
     Ok(())
 }
 
+#[cycle(tree)]
 fn put_inner(out: &mut String, tree: &PromiseTree) -> Result<()> {
     out.push('{')?;
     put_tree(out, tree)?;
@@ -130,6 +131,7 @@ fn put_inner(out: &mut String, tree: &PromiseTree) -> Result<()> {
     Ok(())
 }
 
+#[cycle(tree)]
 fn put_tree(out: &mut String, tree: &PromiseTree) -> Result<()> {
     match tree {
         PromiseTree::Region(region) => put_region(out, region),

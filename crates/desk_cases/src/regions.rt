@@ -157,8 +157,9 @@ fn put_added(
     ensures { AreOf (parents_in tree.now) apart.new }
 {
     let region = tree.region(&name_of(alloc, name)?).context("no region")?;
-    let word = if apart.add(tree, region) { " added" } else { " not" };
-    out.push_str(word)?;
+    let word = if apart.add(tree, region) { "added" } else { "not" };
+    out.push_str(if out.is_empty() { "" } else { "; " })?;
+    write!(out, "{name} {word}")?;
     Ok(())
 }
 
@@ -167,9 +168,7 @@ fn put_apart(alloc: Global, out: &mut String, written: &str, names: &str) -> Res
     let tree = tree_of(alloc, written)??;
     let mut apart = DisjointRegions::new(alloc, &tree)?;
     for name in names.split(' ') {
-        put_bytes(out, name.as_bytes())?;
         put_added(alloc, out, &tree, &mut apart, name)?;
-        out.push_str("; ")?;
     }
     Ok(())
 }

@@ -44,7 +44,8 @@ fn put_line(alloc: Global, out: &mut String, heading: &str, line: &str) -> Resul
 
 fn put_section(alloc: Global, out: &mut String, section: &str) -> Result<()> {
     let (heading, body) = section.split_once('\n').unwrap_or((section, ""));
-    write!(out, "== {heading}\n")?;
+    out.push_str(if out.is_empty() { "== " } else { "\n== " })?;
+    write!(out, "{heading}\n")?;
     if heading == "surfaces" {
         return put_surfaces(alloc, out, body.as_bytes());
     }

@@ -54,13 +54,13 @@ fn put_type(out: &mut String, ty: &Ty) -> Result<()> {
     match ty {
         Ty::Int(_) => put_bytes(out, b"int"),
         Ty::Boolean(_) => put_bytes(out, b"boolean"),
-        Ty::Named(name) => put_bytes(out, name.name.as_slice()),
+        Ty::Named(name) => put_bytes(out, name.text.as_slice()),
     }
 }
 
 fn put_name(alloc: Global, out: &mut String, tokens: &mut Tokens) -> Result<()> {
     let word = tokens.word(alloc, Kind::Name)?;
-    put_bytes(out, word.name.as_slice())
+    put_bytes(out, word.text.as_slice())
 }
 
 // What a call of the cursor answers.
@@ -96,7 +96,8 @@ pub(crate) fn put_case(alloc: Global, out: &mut String, words: &str, line: &str)
     match words {
         "of a text" => put_lexed(alloc, out, text_of(alloc, line)?.as_slice()),
         "of a string" => {
-            let value = string_value(alloc, line.as_bytes())?;
+            let literal = text_of(alloc, line)?;
+            let value = string_value(alloc, literal.as_slice())?;
             put_bytes(out, value.as_slice())
         }
         "one after another" => put_walk(alloc, out, line),

@@ -3,7 +3,10 @@
 use crate::surfaces::put_bytes;
 use anyhow::Result;
 use java_heads::Header;
-use java_tree::{Block, BlockItem, Expr, Field, Import, MemberTree, Package, Sig, Stmt};
+use java_tree::{
+    Annot, AnnotLayer, Block, BlockItem, Elem, Elements, Expr, Field, Import, MemberTree, Mod, Package, Sig,
+    Stmt,
+};
 
 /// What a case prints of a tree.
 pub(crate) trait Shape {
@@ -45,9 +48,57 @@ impl Shape for Field {
 #[derive(Drop)]
 pub(crate) struct Annotated(pub(crate) Field);
 
+fn put_elem(out: &mut String, elem: &Elem) -> Result<()> {
+    match elem {
+        Elem::Str(text) => put_bytes(out, text.text.as_slice()),
+        Elem::Annot => put_bytes(out, b"@"),
+    }
+}
+
+fn put_elems(out: &mut String, elems: &[Elem]) -> Result<()> {
+    for (i, elem) in elems.iter().enumerate() {
+        out.push_str(if i == 0 { "({" } else { ", " })?;
+        put_elem(out, elem)?;
+    }
+    put_bytes(out, b"})")
+}
+
+fn put_layer(out: &mut String, layer: &AnnotLayer) -> Result<()> {
+    out.push('@')?;
+    for name in layer.name.as_slice() {
+        put_bytes(out, name.text.as_slice())?;
+    }
+    match &layer.elements {
+        Elements::Bare => Ok(()),
+        Elements::Empty(_, _) => put_bytes(out, b"()"),
+        Elements::One(_, _, elem, _) => {
+            out.push('(')?;
+            put_elem(out, elem)?;
+            put_bytes(out, b")")
+        }
+        Elements::Many(_, _, elems, _) => put_elems(out, elems.as_slice()),
+    }
+}
+
+// An annotation, and those within it with their depths.
+fn put_annotation(out: &mut String, annotation: &Annot) -> Result<()> {
+    out.push_str("; ")?;
+    put_layer(out, &annotation.layer)?;
+    for inner in annotation.inner.as_slice() {
+        write!(out, ", at depth {} ", inner.depth)?;
+        put_layer(out, &inner.layer)?;
+    }
+    Ok(())
+}
+
 impl Shape for Annotated {
     fn put(&self, out: &mut String) -> Result<()> {
         write!(out, "{} tokens", self.0.tokens.len())?;
+        for modifier in self.0.mods.as_slice() {
+            if let Mod::Annot(annotation) = modifier {
+                put_annotation(out, annotation)?;
+            }
+        }
         Ok(())
     }
 }
@@ -55,7 +106,7 @@ impl Shape for Annotated {
 // Operators, grouped by parentheses, and names.
 fn put_expr(out: &mut String, expr: &Expr) -> Result<()> {
     match expr {
-        Expr::Name(name) => put_bytes(out, name.name.as_slice()),
+        Expr::Name(name) => put_bytes(out, name.text.as_slice()),
         Expr::Binary(left, op, _, right) => {
             out.push('(')?;
             put_expr(out, left.get())?;
