@@ -1,10 +1,14 @@
+//! How surfaces are printed for people who look at them.
+
 use crate::content::put_content;
 use anyhow::Result;
 use class_faces::{FaceTy, FieldFace, MemberFace, ParamFace};
 use desk_base::{Name, PromiseKey, Text};
-use java_tree::TypeKind;
-use promise_scrub::{Aside, Assumption, Standing, Surface};
+use java_reader::read_file;
+use java_tree::{ClassTree, TypeKind};
+use promise_scrub::{Aside, Assumption, Standing, Surface, surface_of};
 use region_tree::RegionDecl;
+use std::alloc::Global;
 use std::str;
 
 pub(crate) fn put_bytes(out: &mut String, bytes: &[u8]) -> Result<()> {
@@ -160,7 +164,7 @@ fn put_shape(out: &mut String, surface: &Surface) -> Result<()> {
 }
 
 /// A surface, a line for each thing that it says.
-pub(crate) fn put_surface(out: &mut String, surface: &Surface) -> Result<()> {
+fn put_surface(out: &mut String, surface: &Surface) -> Result<()> {
     put_shape(out, surface)?;
     for promise in surface.standing.as_slice() {
         put_standing(out, promise)?;
@@ -173,6 +177,19 @@ pub(crate) fn put_surface(out: &mut String, surface: &Surface) -> Result<()> {
     }
     for unit in surface.vouched.as_slice() {
         put_vouched(out, unit)?;
+    }
+    Ok(())
+}
+
+fn put_class(alloc: Global, out: &mut String, class: &ClassTree) -> Result<()> {
+    put_surface(out, &surface_of(alloc, class)?)
+}
+
+/// What each class of a Java file says to the others, in the order of the file, a line for each thing.
+pub(crate) fn put_surfaces(alloc: Global, out: &mut String, text: &[u8]) -> Result<()> {
+    let file = read_file(alloc, text)?;
+    for class in file.types.as_slice() {
+        put_class(alloc, out, class)?;
     }
     Ok(())
 }

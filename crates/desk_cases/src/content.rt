@@ -1,4 +1,6 @@
-use crate::write::put_bytes;
+//! The contents of promises as they are written.
+
+use crate::surfaces::put_bytes;
 use anyhow::Result;
 use desk_base::Name;
 use promise_grammar::{
