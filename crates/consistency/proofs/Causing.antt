@@ -114,3 +114,7 @@ ends_more left steps order i p ends v li is size o falls ve e =
 
 pub ends_all : (left : List (Option ℕ)) (steps : List (Option Step)) (order : List ℕ) (ends : List (Option ℕ)) → InOrder left order → EndsTo left steps order ends → Ends left steps ends
 ends_all left steps order ends o e p r h = e.each p (o.has p r h)
+
+-- what is taken from a list stands in it
+pub place_in : (xs order : List ℕ) (i : ℕ) → xs ≡ order → i < length xs → Contains order (get_or xs i 0)
+place_in xs order i e lt = subst (λ (z : List ℕ). Contains z (get_or xs i 0)) e (Contains-get_or xs i 0 lt)

@@ -387,3 +387,69 @@ fits_of given cs n g wired ps few fews many ons flat =
           let w = wired.targets (get_or cs (get_or ways m none_way).0 d) a.0 (target_of g l) (Contains-get_or cs (get_or ways m none_way).0 d lb) a.1 c in
           omega (arith, w, ps);
     }
+
+-- ---- one link more
+
+targets_more : (ls : List Link) (i : ℕ) (l : Link) → i < length ls → l ≡ get_or ls i l → targets (take (i + 1) ls) ≡ targets (take i ls) ++ targets (l ∷ [])
+targets_more ls i l lt is = ap (λ (z : List Link). targets z) (take_more ls i l lt ∙ ap (λ (z : Link). take i ls ++ z ∷ []) (sym is)) ∙ targets-append (take i ls) (l ∷ [])
+
+map_one : (way : ℕ) (xs : List ℕ) (q : ℕ) → map (λ x. way) (xs ++ q ∷ []) ≡ map (λ x. way) xs ++ way ∷ []
+map_one way [] q = refl
+map_one way (x ∷ xs) q = ap (λ (z : List ℕ). way ∷ z) (map_one way xs q)
+
+pub links_put : (old mid new : Flat) (way q i : ℕ) (ls : List Link) (d : Link) → i < length ls → get_or ls i d ≡ Promise q
+    → new.promises ≡ mid.promises → new.on.items ≡ mid.on.items → new.finding.items ≡ mid.finding.items → new.barred.items ≡ mid.barred.items
+    → new.alternative.items ≡ mid.alternative.items ++ way ∷ [] → new.target.items ≡ mid.target.items ++ q ∷ []
+    → AddsLinks old mid way (take i ls) → AddsLinks old new way (take (i + 1) ls)
+links_put old mid new way q i ls d lt to pe oe fe be ae te a =
+    let l = get_or ls i d in
+    let is : l ≡ get_or ls i l = get_or_default ls i d l lt in
+    let more : targets (take (i + 1) ls) ≡ targets (take i ls) ++ q ∷ [] = targets_more ls i l lt is ∙ ap (λ (z : Link). targets (take i ls) ++ targets (z ∷ [])) to in
+    record {
+      promises = pe ∙ a.promises;
+      on = oe ∙ a.on;
+      finding = fe ∙ a.finding;
+      barred = be ∙ a.barred;
+      alternative = ae ∙ ap (λ (z : List ℕ). z ++ way ∷ []) a.alternative ∙ append_assoc old.alternative.items (map (λ x. way) (targets (take i ls))) (way ∷ [])
+          ∙ ap (λ (z : List ℕ). old.alternative.items ++ z) (sym (map_one way (targets (take i ls)) q) ∙ ap (λ (z : List ℕ). map (λ x. way) z) (sym more));
+      target = te ∙ ap (λ (z : List ℕ). z ++ q ∷ []) a.target ∙ append_assoc old.target.items (targets (take i ls)) (q ∷ [])
+          ∙ ap (λ (z : List ℕ). old.target.items ++ z) (sym more);
+    }
+
+pub links_skip : (old mid : Flat) (way w i : ℕ) (ls : List Link) (d : Link) → i < length ls → get_or ls i d ≡ Word w
+    → AddsLinks old mid way (take i ls) → AddsLinks old mid way (take (i + 1) ls)
+links_skip old mid way w i ls d lt to a =
+    let l = get_or ls i d in
+    let is : l ≡ get_or ls i l = get_or_default ls i d l lt in
+    let more : targets (take (i + 1) ls) ≡ targets (take i ls) = targets_more ls i l lt is ∙ ap (λ (z : Link). targets (take i ls) ++ targets (z ∷ [])) to ∙ append-nil (targets (take i ls)) in
+    record {
+      promises = a.promises;
+      on = a.on;
+      finding = a.finding;
+      barred = a.barred;
+      alternative = a.alternative ∙ ap (λ (z : List ℕ). old.alternative.items ++ map (λ x. way) z) (sym more);
+      target = a.target ∙ ap (λ (z : List ℕ). old.target.items ++ z) (sym more);
+    }
+
+-- before any alternative
+pub has_none : (given : Bool) (g : Flat) → HasWays true [] g × HasWays false [] g → HasWays given [] g
+has_none true g h = h.0
+has_none false g h = h.1
+
+-- the promise of one finding more
+pub ons_more : (cs : List Clause) (i : ℕ) (d : Clause) (ons : List ℕ) → i < length cs → ons ≡ map (λ (x : Clause). x.on) (take i cs)
+    → ons ++ (get_or cs i d).on ∷ [] ≡ map (λ (x : Clause). x.on) (take (i + 1) cs)
+ons_more cs i d ons lt is =
+    ap (λ (z : List ℕ). z ++ (get_or cs i d).on ∷ []) is ∙ sym (put (take i cs) (get_or cs i d))
+    ∙ ap (λ (z : List Clause). map (λ (x : Clause). x.on) z) (sym (take_more cs i d lt))
+  where
+    put : (xs : List Clause) (x : Clause) → map (λ (y : Clause). y.on) (xs ++ x ∷ []) ≡ map (λ (y : Clause). y.on) xs ++ x.on ∷ []
+    put [] x = refl
+    put (y ∷ ys) x = ap (λ (z : List ℕ). y.on ∷ z) (put ys x)
+
+-- the lists of one finding more, whose promise was put before
+pub flat_put : (given : Bool) (cs : List Clause) (i f : ℕ) (c : Clause) (old mid new : Flat) (lss : List (Vec Link Global)) → AddsWays given mid new (ways_of f lss) → lss ≡ c.alternatives.items
+    → mid.finding.items ≡ old.finding.items → mid.barred.items ≡ old.barred.items → mid.alternative.items ≡ old.alternative.items → mid.target.items ≡ old.target.items
+    → i < length cs → c ≡ get_or cs i c → f ≡ i → FlatTo given cs i old → FlatTo given cs (i + 1) new
+flat_put given cs i f c old mid new lss adds ls fe be ae te lt at is flat =
+    flat_more given cs i f c old mid new lt at is (keep_on given old mid fe be ae te) flat (subst (λ (z : List (Vec Link Global)). AddsWays given mid new (ways_of f z)) ls adds)

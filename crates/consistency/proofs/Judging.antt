@@ -42,7 +42,7 @@ get_contains [] (suc i) x h = absurd cc
 get_contains (y ∷ ys) zero x h = (zero, omega arith, cc)
 get_contains (y ∷ ys) (suc i) x h = let c = get_contains ys i x h in (suc c.0, (let l = c.1 in omega arith), c.2)
 
-place_at : {X : Type 0} (xs : List X) (x : X) (k : ℕ) → k < length xs → get_or xs k x ≡ x → slice_get xs k ≡ Some x
+pub place_at : {X : Type 0} (xs : List X) (x : X) (k : ℕ) → k < length xs → get_or xs k x ≡ x → slice_get xs k ≡ Some x
 place_at [] x k lt is = absurd (omega arith)
 place_at {X} (y ∷ ys) x zero lt is = ap (λ (z : X). Some z) is
 place_at (y ∷ ys) x (suc k) lt is = place_at ys x k (omega arith) is

@@ -1,5 +1,5 @@
 -- Steps towards a leaf, and what the rows of verdicts say.
-use Rattle.std.proofs.Common.{◌≡◌, ℕ, zero, suc, ◌+◌, ◌-◌, ◌<◌, ◌≤◌, List, [], ◌∷◌, length, get_or, arith, refl, sym, ◌∙◌, ap, subst, ◌⊎◌, inl, inr, Bool, true, false}
+use Rattle.std.proofs.Common.{◌≡◌, ℕ, zero, suc, ◌+◌, ◌-◌, ◌<◌, ◌≤◌, List, [], ◌∷◌, ◌++◌, length, get_or, arith, refl, sym, ◌∙◌, ap, subst, ◌⊎◌, inl, inr, Bool, true, false}
 use Rattle.std.specs.Prelude.{Contains, All, Option, Some, None, Vec, find, not, nat_lt}
 use Rattle.std.specs.Global.{Global}
 use Rattle.std.specs.List.{AllZip, slice_get, list_any}
@@ -29,6 +29,7 @@ use Rattle.consistency.specs.Tables.{BlameEnds, Causes, Ends, Falls, LeafEnds, L
 use Rattle.consistency.specs.Verdicts.{BlamedBy, IsJudged, RestsBy, RunOf, Runs, VerdictsOf}
 use Rattle.consistency.proofs.Orders.{some_within}
 use Rattle.consistency.proofs.Judging.{Stands, get_within}
+use Rattle.consistency.proofs.Standing.{get_last, get_left}
 use Rattle.consistency.proofs.Blames.{Blamed, LostAt, blamed_of, down, leaves_of, left_by, lost_at, missing_none, tells_missing, tells_way, via_same}
 use Rattle.consistency.proofs.Zips.{any_false, first_found, first_has, none_found}
 
@@ -260,3 +261,15 @@ verdicts_of ps fs g con firm blames leaves v is runc runf be le rows known =
           rows i (omega (arith, w, size)),
           judged_by ps g.words.items g.clauses.items fs con firm blames leaves s rc rf be le i p at (get_or con i None) (get_or firm i None) refl refl);
     }
+
+-- one row more
+pub rows_more : (cs : List Clause) (ws : List FindingLink) (con firm blames leaves : List (Option ℕ)) (n : ℕ) (rows : List Judged) (row : Judged) → length rows ≡ n
+    → row ≡ row_of cs ws (get_or con n None) (get_or firm n None) (get_or blames n None) (get_or leaves n None)
+    → RowsTo cs ws con firm blames leaves n rows → RowsTo cs ws con firm blames leaves (n + 1) (rows ++ row ∷ [])
+rows_more cs ws con firm blames leaves n rows row size is h p lt = elim (last_or_below p n lt) [
+  | inl last ↦ subst (λ (z : ℕ). slice_get (rows ++ row ∷ []) z ≡ Some (row_of cs ws (get_or con z None) (get_or firm z None) (get_or blames z None) (get_or leaves z None))) (sym last)
+      (subst (λ (z : ℕ). slice_get (rows ++ row ∷ []) z ≡ Some row) size (get_last rows row) ∙ ap (λ (z : Judged). Some z) is)
+  | inr below ↦ get_left rows (row ∷ []) p _ (h p below)
+] where
+  last_or_below : (l n : ℕ) → l < n + 1 → (l ≡ n) ⊎ (l < n)
+  last_or_below l n h = grind arith

@@ -18,3 +18,5 @@ pub mod Blames
 pub mod Leaves
 pub mod Searching
 pub mod Standing
+pub mod Laws
+pub mod Answering

@@ -17,13 +17,13 @@ use Rattle.consistency.proofs.Zips.{zip_left, zip_more, zip_weaker}
 
 -- ---- words
 
-get_left : {X : Type 0} (xs ys : List X) (i : ℕ) (x : X) → slice_get xs i ≡ Some x → slice_get (xs ++ ys) i ≡ Some x
+pub get_left : {X : Type 0} (xs ys : List X) (i : ℕ) (x : X) → slice_get xs i ≡ Some x → slice_get (xs ++ ys) i ≡ Some x
 get_left [] ys zero x h = absurd cc
 get_left [] ys (suc i) x h = absurd cc
 get_left (y ∷ xs) ys zero x h = h
 get_left (y ∷ xs) ys (suc i) x h = get_left xs ys i x h
 
-get_last : {X : Type 0} (xs : List X) (x : X) → slice_get (xs ++ x ∷ []) (length xs) ≡ Some x
+pub get_last : {X : Type 0} (xs : List X) (x : X) → slice_get (xs ++ x ∷ []) (length xs) ≡ Some x
 get_last [] x = refl
 get_last (y ∷ xs) x = get_last xs x
 

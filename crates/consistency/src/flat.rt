@@ -1,4 +1,4 @@
-ghost use Rattle.std.specs.Prelude.{◌≡◌, true, false, [], ◌∷◌, IfOk, OnOk, length, map};
+ghost use Rattle.std.specs.Prelude.{◌≡◌, ◌&&◌, not, true, false, [], ◌∷◌, IfOk, OnOk, length, map};
 ghost use Rattle.consistency.specs.Flat.{Fits};
 ghost use Rattle.consistency.specs.Numbers.{Numbered};
 ghost use Rattle.consistency.specs.Wired.{IsWired};
@@ -34,14 +34,23 @@ fn holds_word(links: &[Link]) -> bool
     })
 }
 
+fn is_barred(given: bool, links: &[Link]) -> bool
+    ensures { result ≡ (not given && has_word links.now) }
+{
+    !given && holds_word(links)
+}
+
 // Puts the links of an alternative at the end.
 fn put_links(flat: &mut Flat, way: u32, links: &[Link]) -> Result<(), OutOfMemory>
     ensures { OnOk result (AddsLinks flat.old flat.new way links.now) }
 {
     for link in links {
-        if let Link::Promise(promise) = link {
-            flat.alternative.push(way)?;
-            flat.target.push(*promise)?;
+        match *link {
+            Link::Promise(promise) => {
+                flat.alternative.push(way)?;
+                flat.target.push(promise)?;
+            }
+            Link::Word(_) => {}
         }
     }
     Ok(())
@@ -58,8 +67,9 @@ fn put_way(
 {
     let way = short(flat.finding.len())?;
     flat.finding.push(finding)?;
-    flat.barred.push(!given && holds_word(links))?;
-    put_links(flat, way, links)
+    flat.barred.push(is_barred(given, links))?;
+    put_links(flat, way, links)?;
+    Ok(())
 }
 
 fn put_ways(

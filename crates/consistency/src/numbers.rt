@@ -1,5 +1,4 @@
-ghost use Rattle.std.specs.Prelude.{◌≡◌, MatchOption, IfOk};
-ghost use Rattle.std.specs.List.{slice_get};
+ghost use Rattle.std.specs.Prelude.{◌≡◌, ◌<◌, ◌^◌, IfOk};
 ghost use Rattle.consistency.specs.Keys.{Indexes, number_in};
 
 use desk_base::{OutOfMemory, PromiseKey};
@@ -18,12 +17,19 @@ pub(crate) fn number_of(numbers: &Numbers, key: &PromiseKey) -> Option<u32>
 
 /// A number in 32 bits. One that has no room there is taken as want of memory.
 pub(crate) fn short(number: usize) -> Result<u32, OutOfMemory>
-    ensures { IfOk result (λ n. n ≡ number) }
+    ensures value { IfOk result (λ n. n ≡ number) }
+    ensures fits { IfOk result (λ n. number < 2 ^ 32) }
 {
     match u32::try_from(number) {
         Ok(short) => Ok(short),
         Err(_) => Err(OutOfMemory),
     }
+}
+
+pub(crate) fn copy_of(key: &PromiseKey) -> Result<PromiseKey, OutOfMemory>
+    ensures { IfOk result (λ copy. copy ≡ key.now) }
+{
+    Ok(key.clone()?)
 }
 
 /// Gives each promise its place in the list as its number.
@@ -32,7 +38,7 @@ pub(crate) fn numbers_of(alloc: Global, keys: &[PromiseKey]) -> Result<Numbers, 
 {
     let mut numbers = BTreeMap::new(alloc);
     for i in 0..keys.len() {
-        numbers.insert(keys[i].clone()?, short(i)?)?;
+        numbers.insert(copy_of(&keys[i])?, short(i)?)?;
     }
     Ok(numbers)
 }

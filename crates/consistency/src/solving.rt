@@ -26,7 +26,8 @@ fn run(alloc: Global, graph: &Graph, given: bool) -> Result<Rounds, OutOfMemory>
     ensures few { IfOk result (λ r. length r.left.items < 2 ^ 31) }
 {
     let flat = flat_of(alloc, graph.keys.len(), &graph.clauses, given)?;
-    rounds_of(alloc, &flat)
+    let rounds = rounds_of(alloc, &flat)?;
+    Ok(rounds)
 }
 
 fn blames_of(
@@ -42,7 +43,8 @@ fn blames_of(
 {
     let causes = causes_of(alloc, clauses, &con.left, true)?;
     let steps = blame_steps(alloc, clauses, &con.left, &causes)?;
-    ends_of(alloc, con, &steps)
+    let ends = ends_of(alloc, con, &steps)?;
+    Ok(ends)
 }
 
 fn leaves_of(
@@ -60,7 +62,8 @@ fn leaves_of(
 {
     let causes = causes_of(alloc, clauses, &firm.left, false)?;
     let steps = leaf_steps(alloc, clauses, con, &firm.left, &causes)?;
-    ends_of(alloc, firm, &steps)
+    let ends = ends_of(alloc, firm, &steps)?;
+    Ok(ends)
 }
 
 fn key_copy(clauses: &[Clause], finding: Option<u32>) -> Result<Option<FindingKey>, OutOfMemory>

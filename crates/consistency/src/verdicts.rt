@@ -40,7 +40,10 @@ impl Verdicts {
     pub fn verdict(&self, key: &PromiseKey) -> Option<Verdict>
         ensures { (ps : List Key) (fs : List Finding) → VerdictsOf ps fs self.now → MatchOption result (Contains ps key.now → ⊥) (λ v. Contains ps key.now × HasVerdict ps fs key.now v) }
     {
-        self.row(key).map(|row| row.verdict)
+        match self.row(key) {
+            None => None,
+            Some(row) => Some(row.verdict),
+        }
     }
 
     /// The failing finding that an inconsistent promise is blamed on; None where the promise isn't
@@ -48,7 +51,10 @@ impl Verdicts {
     pub fn blame(&self, key: &PromiseKey) -> Option<&FindingKey>
         ensures { (ps : List Key) (fs : List Finding) → VerdictsOf ps fs self.now → MatchOption result (Contains ps key.now → Con ps fs key.now) (λ b. Contains ps key.now × (Con ps fs key.now → ⊥) × Blame ps fs key.now b.now × IsFailing fs b.now) }
     {
-        self.row(key)?.blame.as_ref()
+        match self.row(key) {
+            None => None,
+            Some(row) => row.blame.as_ref(),
+        }
     }
 
     /// The vouch or assumption that a contingent promise rests on; None where the promise isn't
@@ -56,6 +62,9 @@ impl Verdicts {
     pub fn leaf(&self, key: &PromiseKey) -> Option<&FindingLink>
         ensures { (ps : List Key) (fs : List Finding) → VerdictsOf ps fs self.now → MatchOption result (Contains ps key.now → Con ps fs key.now → (Firm ps fs key.now → ⊥) → ⊥) (λ l. Contains ps key.now × Con ps fs key.now × (Firm ps fs key.now → ⊥) × Leaf ps fs key.now l.now × IsWord l.now) }
     {
-        self.row(key)?.leaf.as_ref()
+        match self.row(key) {
+            None => None,
+            Some(row) => row.leaf.as_ref(),
+        }
     }
 }

@@ -1,9 +1,11 @@
 //! Cases of verdicts. A line `graph N` begins a graph of N promises, `on P or L L or L` adds a
 //! finding on the promise P with its alternatives, `solve` prints the verdict on each promise with
 //! its blame or its leaf, and `random S N` compares N random graphs with the rounds as defined.
+//! `chain N` and `star N LINKS` solve a large graph and print how many of its promises are inconsistent.
 #![tactic(auto)]
 
 mod case;
+mod large;
 mod lines;
 mod print;
 mod random;
@@ -36,6 +38,8 @@ fn take_line(rt: &impl Print, alloc: Global, table: Table, line: &str) -> Result
         }
         "on" => table.cases.push(lines::case_in(alloc, number_in(first), more)?)?,
         "solve" => print::print_verdicts(rt, alloc, table.promises, &table.cases)?,
+        "chain" => print::count(rt, alloc, number_in(first), &large::chain(alloc, number_in(first))?)?,
+        "star" => print::count(rt, alloc, number_in(first), &large::star(alloc, number_in(first), number_in(more))?)?,
         "random" => print::compare(rt, alloc, number_in(first), number_in(more))?,
         _ => println!(rt; "{line}")?,
     }

@@ -121,3 +121,15 @@ pub fn compare(rt: &impl Print, alloc: Global, seed: usize, graphs: usize) -> Re
     println!(rt; "{agree} of {graphs} agree")?;
     Ok(())
 }
+
+/// Prints how many promises are inconsistent.
+pub fn count(rt: &impl Print, alloc: Global, promises: usize, cases: &[Case]) -> Result<(), Error> {
+    let keys = keys_of(alloc, promises)?;
+    let verdicts = verdicts_of(alloc, &keys, cases)?;
+    let out = keys
+        .iter()
+        .filter(|key| verdicts.verdict(key) == Some(Verdict::Inconsistent))
+        .count();
+    println!(rt; "{out} of {promises} inconsistent")?;
+    Ok(())
+}
