@@ -21,3 +21,33 @@ faults_before fails (suc n) = faults_before fails n + (if list_any (λ f. f == s
 abbrev pub room_of : List ℕ → ℕ → Option ℕ
 room_of [] room = Some room
 room_of (f ∷ fails) room = None
+
+-- which calls are to fail, by their numbers from 1, and how many were made
+pub record Script : Type 0 where
+  pub fails : List ℕ
+  pub made : ℕ
+
+-- whether the next call is to fail: a call after the last number has none
+abbrev pub fails_next : Script → Bool
+fails_next script = if script.made == last_count then false else list_any (λ f. f == script.made + 1) script.fails
+
+-- how many of the calls made failed by their numbers
+abbrev pub faults_told : Script → ℕ
+faults_told script = faults_before script.fails script.made
+
+-- the script after one call more
+abbrev pub after_call : Script → Script
+after_call script = record { fails = script.fails; made = next_call script.made }
+
+-- an input in memory: the bytes that are left, and its script
+pub record MemInput : Type 0 where
+  pub left : List ℕ
+  pub script : Script
+
+-- an output in memory: the bytes written, the room that is left, its script, and how many calls
+-- found no room
+pub record MemOutput : Type 0 where
+  pub written : List ℕ
+  pub room : ℕ
+  pub script : Script
+  pub full : ℕ

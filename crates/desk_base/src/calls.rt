@@ -1,6 +1,6 @@
 ghost use Rattle.std.specs.Prelude.{◌≡◌, ◌+◌, [], false};
 ghost use Rattle.std.specs.Bool.{OnTrue, OnFalse};
-ghost use Rattle.desk_base.specs.Calls.{faults_before, next_call};
+ghost use Rattle.desk_base.specs.Calls.{faults_before, next_call, fails_next, Script};
 
 use sqlite_items::Items;
 use std::marker::Model;
@@ -31,6 +31,7 @@ impl CallNumbers {
     /// (2^64 - 1)st has no number and doesn't fail.
     pub(crate) fn counts(&self, calls: &mut u64) -> bool
         ensures number { calls.new ≡ next_call calls.old }
+        ensures told { result ≡ fails_next (record { fails = self.now; made = calls.old }) }
         ensures fails { OnTrue result (faults_before self.now calls.new ≡ faults_before self.now calls.old + 1) }
         ensures passes { OnFalse result (faults_before self.now calls.new ≡ faults_before self.now calls.old) }
         ensures quiet { self.now ≡ [] → result ≡ false }

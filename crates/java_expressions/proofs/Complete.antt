@@ -9,7 +9,7 @@ use Rattle.desk_base.specs.declared.span.Span.{Span}
 use Rattle.java_tree.specs.declared.kind.Kind.{Kind}
 use Rattle.java_tree.specs.declared.kind.Kind.TheVariants as k
 use Rattle.java_tree.specs.declared.token.Token.{Token}
-use Rattle.java_tree.specs.declared.token.Word.{Word}
+use Rattle.java_tree.specs.declared.token.Lexeme.{Lexeme}
 use Rattle.java_tree.specs.declared.expr.Expr.{Expr, out-Expr, roll-Expr}
 use Rattle.java_tree.specs.declared.expr.Expr.TheOpen.{Expr-F}
 use Rattle.java_tree.specs.declared.expr.Expr.TheVariants as tree
@@ -20,7 +20,8 @@ use Rattle.java_expressions.specs.declared.tall.Tall.{Tall}
 use Rattle.java_expressions.specs.declared.tall.Listed.{Listed}
 use Rattle.java_expressions.specs.declared.tall.Arguments.{Arguments}
 use Rattle.java_phrases.specs.Phrase.{Phrase, ◌⨾◌, Mark, Sign, Spelled, Separated, Each}
-use Rattle.java_expressions.specs.Spelling.{sign_of, level_of, smallest_digits, thread_name, Args, Layered, Spells}
+use Rattle.java_phrases.specs.Texts.{smallest_digits, thread_name}
+use Rattle.java_expressions.specs.Spelling.{sign_of, level_of, Args, Layered, Spells}
 use Rattle.java_phrases.specs.Parser.{Outcome, Found, Parser, ◌>>=◌, pure, same_kind, next_kind, sees, sees_text, sign, turns_from, turns}
 use Rattle.java_expressions.specs.Reading.{tall, none, with_item, small, class_name, one_more, some_items, items_by, arguments, named, created, parenthesized, primary_by, primary, climbs, next_operator, operator_by, operator, tight, sees_smallest}
 use Rattle.java_phrases.proofs.Phrases.{sees-next, next-sign, next-mark, next-word, sign-complete, word-complete, sign-mark}
@@ -152,12 +153,12 @@ no_number kind (t ∷ ts) e off = let is : t.kind ≡ kind = cc in rw (is, off) 
 opens-kind : (kind : Kind) (ts : List Token) → next_kind ts ≡ Some kind → same_kind kind k.RParen ≡ false → same_kind kind k.IntLiteral ≡ false → Opens ts
 opens-kind kind ts e a b = (sees-kind k.RParen kind ts e ∙ a, no_number kind ts e b)
 
-opens-int : (w : Word) (ts rest : List Token) → w.name ≢ smallest_digits → Spelled k.IntLiteral w ts rest → Opens ts
+opens-int : (w : Lexeme) (ts rest : List Token) → w.text ≢ smallest_digits → Spelled k.IntLiteral w ts rest → Opens ts
 unfolding sees_text
 opens-int w ts rest other (t, e, is, stands) =
-    let bytes : t.bytes ≡ w.name = ap (λ (v : Word). v.name) stands in
+    let bytes : t.bytes ≡ w.text = ap (λ (v : Lexeme). v.text) stands in
     let P : List ℕ → Type 0 = λ l. bytes_eq l smallest_digits ≡ false in
-    let off : bytes_eq t.bytes smallest_digits ≡ false = subst P (sym bytes) (other_bytes w.name smallest_digits other) in
+    let off : bytes_eq t.bytes smallest_digits ≡ false = subst P (sym bytes) (other_bytes w.text smallest_digits other) in
     (sees-kind k.RParen k.IntLiteral ts (next-word k.IntLiteral w ts rest (t, e, is, stands)), rw (e, is, off) refl)
 
 opens : (room : ℕ) (inner : (p : ℕ) (e : Expr) (ts rest : List Token) → Spells room p e ts rest → Opens ts) (p : ℕ) (f : Expr-F Expr) (ts rest : List Token) → Layered room (Spells room) p f ts rest → Opens ts
@@ -217,13 +218,13 @@ as_post room Inner p (Expr-F.Neg at e) ts rest is s = cc
 as_post room Inner p _ ts rest is s = s
 
 -- what an inner parser finds
-pub record Finds (m : ℕ) (outcome : Outcome Tall) (e : Expr) (rest : List Token) : Type 0 where
+pub record FindsTall (m : ℕ) (outcome : Outcome Tall) (e : Expr) (rest : List Token) : Type 0 where
   pub height : ℕ
   pub low : height ≤ m
   pub is : outcome ≡ Found (tall e height) rest
 
 abbrev pub Reading-complete : ℕ → (ℕ → Parser Tall) → Type 0
-Reading-complete room inner = (m p : ℕ) (e : Expr) (ts rest : List Token) → m ≤ room → p ≤ 7 → Spells m p e ts rest → Closed p rest → Finds m (inner p ts) e rest
+Reading-complete room inner = (m p : ℕ) (e : Expr) (ts rest : List Token) → m ≤ room → p ≤ 7 → Spells m p e ts rest → Closed p rest → FindsTall m (inner p ts) e rest
 
 pub record FindsList (m : ℕ) (outcome : Outcome Listed) (items : List Expr) (rest : List Token) : Type 0 where
   pub height : ℕ
@@ -237,7 +238,7 @@ pub record FindsArgs (m : ℕ) (outcome : Outcome Arguments) (items : List Expr)
 
 -- what an inner parser finds, and with which kind of token it begins
 pub record Leads (m : ℕ) (outcome : Outcome Tall) (e : Expr) (ts rest : List Token) : Type 0 where
-  pub finds : Finds m outcome e rest
+  pub finds : FindsTall m outcome e rest
   pub kind : Kind
   pub next : next_kind ts ≡ Some kind
   pub leading : leads kind ≡ true
@@ -303,9 +304,9 @@ module _ (room : ℕ) (inner : ℕ → Parser Tall) (known : Reading-sound room 
 
   -- ---- leaves, calls, parentheses
 
-  class_name-complete : (w : Word) (ts rest : List Token) → w.name ≢ thread_name → Spelled k.Name w ts rest → class_name ts ≡ Found w rest
+  class_name-complete : (w : Lexeme) (ts rest : List Token) → w.text ≢ thread_name → Spelled k.Name w ts rest → class_name ts ≡ Found w rest
   unfolding class_name
-  class_name-complete w ts rest other s = rw (word-complete k.Name ts rest w s, other_bytes w.name thread_name other) refl
+  class_name-complete w ts rest other s = rw (word-complete k.Name ts rest w s, other_bytes w.text thread_name other) refl
 
   leaf-sign : (kind : Kind) (at : Span) (make : Span → Expr) (f : Expr-F Expr) (m : ℕ) (ts rest : List Token) → roll-Expr f ≡ make at → leads kind ≡ true → primary_by inner (Some kind) ≡ (sign kind >>= (λ at. pure (tall (make at) 1)))
       → Sign kind at ts rest → Leads (m + 1) (primary inner ts) (roll-Expr f) ts rest
@@ -320,7 +321,7 @@ module _ (room : ℕ) (inner : ℕ → Parser Tall) (known : Reading-sound room 
   pub primary-complete : (m p : ℕ) (f : Expr-F Expr) (ts rest : List Token) → m ≤ room → is_primary f ≡ true → Layered m (Spells m) p f ts rest → sees k.LParen rest ≡ false → Leads (m + 1) (primary inner ts) (roll-Expr f) ts rest
   unfolding primary small named created parenthesized
   primary-complete m p (Expr-F.Int w) ts rest fits is (other, s) free = record {
-    finds = record { height = 1; low = omega arith; is = rw (next-word k.IntLiteral w ts rest s, word-complete k.IntLiteral ts rest w s, other_bytes w.name smallest_digits other) (same-tree 1 rest (sym (rolls-Int w))) };
+    finds = record { height = 1; low = omega arith; is = rw (next-word k.IntLiteral w ts rest s, word-complete k.IntLiteral ts rest w s, other_bytes w.text smallest_digits other) (same-tree 1 rest (sym (rolls-Int w))) };
     kind = k.IntLiteral;
     next = next-word k.IntLiteral w ts rest s;
     leading = refl;

@@ -6,8 +6,10 @@ use Rattle.desk_base.specs.declared.span.Span.{Span}
 use Rattle.java_tree.specs.declared.kind.Kind.{Kind}
 use Rattle.java_tree.specs.declared.kind.Kind.TheVariants as k
 use Rattle.java_tree.specs.declared.token.Token.{Token}
-use Rattle.java_tree.specs.declared.token.Word.{Word}
-use Rattle.java_tree.specs.declared.member.Annot.{Annot, roll-Annot}
+use Rattle.java_tree.specs.declared.token.Lexeme.{Lexeme}
+use Rattle.java_tree.specs.declared.member.Annot.{Annot}
+use Rattle.java_tree.specs.declared.member.AnnotLayer.{AnnotLayer}
+use Rattle.java_tree.specs.declared.member.InnerAnnot.{InnerAnnot}
 use Rattle.java_tree.specs.declared.member.Elements.{Elements}
 use Rattle.java_tree.specs.declared.member.Elements.TheVariants as elements
 use Rattle.java_tree.specs.declared.member.Elem.{Elem}
@@ -36,8 +38,9 @@ use Rattle.java_heads.specs.declared.nest.Opened.{Opened}
 use Rattle.java_heads.specs.declared.nest.Opened.TheVariants as opened
 use Rattle.java_heads.specs.declared.nest.Nest.{Nest}
 use Rattle.java_heads.specs.Modifiers.{may_have, must_have, same_word, is_access, words_that, kind_of}
-use Rattle.java_heads.specs.Annotation.{value_name}
-use Rattle.java_heads.specs.Spelling.{smallest_digits, object_name, string_name, runnable_name, thread_name, declared_as}
+use Rattle.java_heads.specs.Annotation.{value_name, inner_annot}
+use Rattle.java_phrases.specs.Texts.{smallest_digits, thread_name}
+use Rattle.java_heads.specs.Spelling.{object_name, string_name, runnable_name, declared_as}
 
 -- ---- lists
 
@@ -64,25 +67,25 @@ is_name _ = false
 unfoldable pub goes_on : List Token → Bool
 goes_on ts = sees k.Dot ts && is_name (kind_at 1 ts)
 
-unfoldable pub qualified : Parser (List Word)
+unfoldable pub qualified : Parser (List Lexeme)
 qualified = do
   first ← word k.Name
   turns goes_on (after k.Dot (word k.Name)) (first ∷ [])
 
 -- ---- annotations
 
-abbrev pub value_by : Bool → Parser (Option Word)
+abbrev pub value_by : Bool → Parser (Option Lexeme)
 value_by false = pure None
 value_by true = do
   name ← word k.Name
-  if bytes_eq name.name value_name then (do sign k.Assign; pure (Some name)) else fail
+  if bytes_eq name.text value_name then (do sign k.Assign; pure (Some name)) else fail
 
-unfoldable pub value_word : Parser (Option Word)
+unfoldable pub value_word : Parser (Option Lexeme)
 value_word = do
   named ← look k.Name
   value_by named
 
-abbrev pub frame : Span → List Word → Span → Option Word → Bool → Frame
+abbrev pub frame : Span → List Lexeme → Span → Option Lexeme → Bool → Frame
 frame at name opening value in_braces =
     record { at = at; name = name; opening = opening; value = value; in_braces = in_braces; elems = [] }
 
@@ -90,14 +93,14 @@ abbrev pub with_elem : Frame → Elem → Frame
 with_elem f elem =
     record { at = f.at; name = f.name; opening = f.opening; value = f.value; in_braces = f.in_braces; elems = f.elems ++ elem ∷ [] }
 
-abbrev pub annot : Span → List Word → Elements → Annot
-annot at name elements = roll-Annot (record { at = at; name = name; elements = elements })
+abbrev pub layer : Span → List Lexeme → Elements → AnnotLayer
+layer at name elements = record { at = at; name = name; elements = elements }
 
-abbrev pub one_tree : Frame → Elem → Span → Annot
-one_tree f elem closing = annot f.at f.name (elements.One f.opening f.value elem closing)
+abbrev pub one_tree : Frame → Elem → Span → AnnotLayer
+one_tree f elem closing = layer f.at f.name (elements.One f.opening f.value elem closing)
 
-abbrev pub many_tree : Frame → Span → Annot
-many_tree f closing = annot f.at f.name (elements.Many f.opening f.value f.elems closing)
+abbrev pub many_tree : Frame → Span → AnnotLayer
+many_tree f closing = layer f.at f.name (elements.Many f.opening f.value f.elems closing)
 
 -- the end of a list in braces
 unfoldable pub closed : Frame → Parser Opened
@@ -110,7 +113,7 @@ abbrev pub listed_by : Frame → Bool → Parser Opened
 listed_by f true = closed f
 listed_by f false = pure (opened.Open f)
 
-abbrev pub inside_by : Span → List Word → Span → Option Word → Bool → Parser Opened
+abbrev pub inside_by : Span → List Lexeme → Span → Option Lexeme → Bool → Parser Opened
 inside_by at name opening value false = pure (opened.Open (frame at name opening value false))
 inside_by at name opening value true = do
   sign k.LBrace
@@ -118,27 +121,27 @@ inside_by at name opening value true = do
   listed_by (frame at name opening value true) ended
 
 -- what stands behind the parenthesis of an annotation with elements, up to its first element
-unfoldable pub inside : Span → List Word → Span → Parser Opened
+unfoldable pub inside : Span → List Lexeme → Span → Parser Opened
 inside at name opening = do
   value ← value_word
   in_braces ← look k.LBrace
   inside_by at name opening value in_braces
 
-abbrev pub filled_by : Span → List Word → Span → Bool → Parser Opened
+abbrev pub filled_by : Span → List Lexeme → Span → Bool → Parser Opened
 filled_by at name opening true = do
   closing ← sign k.RParen
-  pure (opened.Whole (annot at name (elements.Empty opening closing)))
+  pure (opened.Whole (layer at name (elements.Empty opening closing)))
 filled_by at name opening false = inside at name opening
 
-unfoldable pub parenthesized : Span → List Word → Parser Opened
+unfoldable pub parenthesized : Span → List Lexeme → Parser Opened
 parenthesized at name = do
   opening ← sign k.LParen
   ended ← look k.RParen
   filled_by at name opening ended
 
-abbrev pub head_by : Span → List Word → Bool → Parser Opened
+abbrev pub head_by : Span → List Lexeme → Bool → Parser Opened
 head_by at name true = parenthesized at name
-head_by at name false = pure (opened.Whole (annot at name elements.Bare))
+head_by at name false = pure (opened.Whole (layer at name elements.Bare))
 
 -- an annotation up to its first element
 unfoldable pub head : Parser Opened
@@ -164,40 +167,45 @@ placed_by f elem false = do
 unfoldable pub placed : Frame → Elem → Parser Opened
 placed f elem = placed_by f elem f.in_braces
 
-abbrev pub nest : List Frame → Opened → Nest
-nest outer inner = record { outer = outer; inner = inner }
-
--- a whole annotation is an element of the one round it
-abbrev pub surrounded_by : List Frame → Annot → Parser Nest
-surrounded_by [] a = fail
-surrounded_by (f ∷ outer) a = do
-  inner ← placed f (element.Annot a)
-  pure (nest (reverse outer) inner)
-
-unfoldable pub surrounded : List Frame → Annot → Parser Nest
-surrounded outer a = surrounded_by (reverse outer) a
-
-abbrev pub entered_by : List Frame → Frame → Bool → Parser Nest
-entered_by outer f true = do
+-- a string that is placed as an element
+unfoldable pub text_placed : Frame → Parser Opened
+text_placed f = do
   text ← word k.StrLiteral
-  inner ← placed f (element.Str text)
-  pure (nest outer inner)
-entered_by outer f false = do
-  inner ← head
-  pure (nest (outer ++ f ∷ []) inner)
+  placed f (element.Str text)
+
+abbrev pub nest : List Frame → List InnerAnnot → Opened → Nest
+nest outer ended last = record { outer = outer; ended = ended; last = last }
+
+-- a whole annotation, which stands in so many, is an element of the one round it
+abbrev pub surrounded_by : ℕ → List Frame → List InnerAnnot → AnnotLayer → Parser Nest
+surrounded_by depth [] ended a = fail
+surrounded_by depth (f ∷ outer) ended a = do
+  last ← placed f element.Annot
+  pure (nest (reverse outer) (ended ++ inner_annot depth a ∷ []) last)
+
+unfoldable pub surrounded : List Frame → List InnerAnnot → AnnotLayer → Parser Nest
+surrounded outer ended a = surrounded_by (length outer) (reverse outer) ended a
+
+abbrev pub entered_by : List Frame → List InnerAnnot → Frame → Bool → Parser Nest
+entered_by outer ended f true = do
+  last ← text_placed f
+  pure (nest outer ended last)
+entered_by outer ended f false = do
+  last ← head
+  pure (nest (outer ++ f ∷ []) ended last)
 
 -- the next element of an open annotation
-unfoldable pub entered : List Frame → Frame → Parser Nest
-entered outer f = do
+unfoldable pub entered : List Frame → List InnerAnnot → Frame → Parser Nest
+entered outer ended f = do
   text ← look k.StrLiteral
-  entered_by outer f text
+  entered_by outer ended f text
 
-abbrev pub turn_by : List Frame → Opened → Parser Nest
-turn_by outer (opened.Whole a) = surrounded outer a
-turn_by outer (opened.Open f) = entered outer f
+abbrev pub turn_by : List Frame → List InnerAnnot → Opened → Parser Nest
+turn_by outer ended (opened.Whole a) = surrounded outer ended a
+turn_by outer ended (opened.Open f) = entered outer ended f
 
 unfoldable pub turn : Nest → Parser Nest
-turn n = turn_by n.outer n.inner
+turn n = turn_by n.outer n.ended n.last
 
 abbrev pub none_outside : List Frame → Bool
 none_outside [] = true
@@ -208,7 +216,7 @@ whole_by outer (opened.Whole a) = none_outside outer
 whole_by outer (opened.Open f) = false
 
 unfoldable pub is_whole : Nest → Bool
-is_whole n = whole_by n.outer n.inner
+is_whole n = whole_by n.outer n.last
 
 unfoldable pub nested_from : ℕ → Nest → Parser Nest
 nested_from zero n ts = Lost
@@ -218,15 +226,15 @@ nested_from (suc left) n ts = if is_whole n then Found n ts else (turn n >>= nes
 unfoldable pub nested : Nest → Parser Nest
 nested n ts = nested_from (suc (length ts)) n ts
 
-abbrev pub annot_of : Opened → Parser Annot
-annot_of (opened.Whole a) = pure a
-annot_of (opened.Open f) = fail
+abbrev pub annot_of : List InnerAnnot → Opened → Parser Annot
+annot_of ended (opened.Whole a) = pure (record { layer = a; inner = ended })
+annot_of ended (opened.Open f) = fail
 
 unfoldable pub annotation : Parser Annot
 annotation = do
   first ← head
-  n ← nested (nest [] first)
-  annot_of n.inner
+  n ← nested (nest [] [] first)
+  annot_of n.ended n.last
 
 -- ---- modifiers
 
@@ -310,17 +318,17 @@ parameters = do
   sign k.RParen
   if nat_le (length found) 255 then pure found else fail
 
-unfoldable pub some_throws : Parser (List (List Word))
+unfoldable pub some_throws : Parser (List (List Lexeme))
 some_throws = do
   sign k.Throws
   first ← qualified
   turns (sees k.Comma) (after k.Comma qualified) (first ∷ [])
 
-abbrev pub throws_by : Bool → Parser (List (List Word))
+abbrev pub throws_by : Bool → Parser (List (List Lexeme))
 throws_by true = some_throws
 throws_by false = pure []
 
-unfoldable pub throws : Parser (List (List Word))
+unfoldable pub throws : Parser (List (List Lexeme))
 throws = do
   has_some ← look k.Throws
   throws_by has_some
@@ -339,7 +347,7 @@ result_type = do
 unfoldable pub small : Parser Init
 small = do
   number ← word k.IntLiteral
-  if bytes_eq number.name smallest_digits then fail else pure (init.Int number)
+  if bytes_eq number.text smallest_digits then fail else pure (init.Int number)
 
 unfoldable pub negative : Parser Init
 negative = do
@@ -347,10 +355,10 @@ negative = do
   number ← word k.IntLiteral
   pure (init.MinusInt at number)
 
-unfoldable pub named : List ℕ → Parser Word
+unfoldable pub named : List ℕ → Parser Lexeme
 named text = do
   name ← word k.Name
-  if bytes_eq name.name text then pure name else fail
+  if bytes_eq name.text text then pure name else fail
 
 unfoldable pub new_object : Parser Init
 new_object = do
@@ -383,7 +391,7 @@ init_part = do
   init_by has_one
 
 -- a field behind its name; its tokens are kept afterwards
-unfoldable pub field_end : List Mod → Ty → Word → Parser Field
+unfoldable pub field_end : List Mod → Ty → Lexeme → Parser Field
 field_end mods of_type name = do
   value ← init_part
   sign k.Semicolon
@@ -454,31 +462,31 @@ unfoldable pub is_free : List ℕ → Bool
 is_free name = not (bytes_eq name object_name) && (not (bytes_eq name string_name) && (not (bytes_eq name runnable_name) && not (bytes_eq name thread_name)))
 
 -- the name of a declared type
-unfoldable pub type_name : Parser Word
+unfoldable pub type_name : Parser Lexeme
 type_name = do
   name ← word k.Name
-  if is_free name.name then pure name else fail
+  if is_free name.text then pure name else fail
 
-unfoldable pub some_interfaces : Parser (List Word)
+unfoldable pub some_interfaces : Parser (List Lexeme)
 some_interfaces = do
   sign k.Implements
   first ← word k.Name
   turns (sees k.Comma) (after k.Comma (word k.Name)) (first ∷ [])
 
-abbrev pub interfaces_by : Bool → Parser (List Word)
+abbrev pub interfaces_by : Bool → Parser (List Lexeme)
 interfaces_by true = some_interfaces
 interfaces_by false = pure []
 
-unfoldable pub class_interfaces : Parser (List Word)
+unfoldable pub class_interfaces : Parser (List Lexeme)
 class_interfaces = do
   has_some ← look k.Implements
   interfaces_by has_some
 
-abbrev pub interfaces : TypeKind → Parser (List Word)
+abbrev pub interfaces : TypeKind → Parser (List Lexeme)
 interfaces sort.Class = class_interfaces
 interfaces sort.Interface = pure []
 
-abbrev pub header_of : List Mod → TypeKind → Word → List Word → Header
+abbrev pub header_of : List Mod → TypeKind → Lexeme → List Lexeme → Header
 header_of mods kind name implements = record { mods = mods; kind = kind; name = name; implements = implements; tokens = [] }
 
 -- the header without its brace

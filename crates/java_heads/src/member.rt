@@ -7,9 +7,9 @@ ghost use Rattle.java_heads.specs.Reading as spec;
 use crate::declaration::Declaration;
 use crate::modifiers::read_modifiers;
 use crate::parameters::{read_parameters, read_result, read_throws};
+use desk_base::Items;
 use java_phrases::{SyntaxError, Tokens, read_type};
-use java_tree::{Field, Init, Kind, Mod, Sig, Ty, Word};
-use sqlite_items::Items;
+use java_tree::{Field, Init, Kind, Lexeme, Mod, Sig, Ty};
 use std::alloc::Global;
 
 #[tactic(auto, unfolding(crate::specs::Reading::small))]
@@ -17,7 +17,7 @@ fn small(alloc: Global, tokens: &mut Tokens) -> Result<Init, SyntaxError>
     ensures { Steps spec.small tokens.old result tokens.new }
 {
     let number = tokens.word(alloc, Kind::IntLiteral)?;
-    if number.name.as_slice() == b"2147483648".as_slice() {
+    if number.text.as_slice() == b"2147483648".as_slice() {
         return Err(SyntaxError::NotSpelled);
     }
     Ok(Init::Int(number))
@@ -34,11 +34,15 @@ fn negative(alloc: Global, tokens: &mut Tokens) -> Result<Init, SyntaxError>
 
 /// Reads a name that is written so.
 #[tactic(auto, unfolding(crate::specs::Reading::named))]
-pub fn read_named(alloc: Global, tokens: &mut Tokens, text: &[u8]) -> Result<Word, SyntaxError>
+pub(crate) fn read_named(
+    alloc: Global,
+    tokens: &mut Tokens,
+    text: &[u8],
+) -> Result<Lexeme, SyntaxError>
     ensures { Steps (spec.named text.now) tokens.old result tokens.new }
 {
     let name = tokens.word(alloc, Kind::Name)?;
-    if name.name.as_slice() != text {
+    if name.text.as_slice() != text {
         return Err(SyntaxError::NotSpelled);
     }
     Ok(name)
@@ -84,12 +88,12 @@ fn init_part(alloc: Global, tokens: &mut Tokens) -> Result<Option<Init>, SyntaxE
 
 /// Reads what stands behind a field's name. The tokens of the field are still to be kept.
 #[tactic(auto, unfolding(crate::specs::Reading::field_end))]
-pub fn read_field_end(
+pub(crate) fn read_field_end(
     alloc: Global,
     tokens: &mut Tokens,
     mods: Items<Mod>,
     ty: Ty,
-    name: Word,
+    name: Lexeme,
 ) -> Result<Field, SyntaxError>
     ensures { Steps (spec.field_end mods ty name) tokens.old result tokens.new }
 {

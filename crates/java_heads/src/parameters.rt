@@ -9,9 +9,9 @@ ghost use Rattle.java_heads.specs.Reading as spec;
 use crate::declaration::Declaration;
 use crate::modifiers::read_modifiers;
 use crate::names::read_qualified;
+use desk_base::Items;
 use java_phrases::{SyntaxError, Tokens, read_type};
-use java_tree::{Kind, Param, Ty, Word};
-use sqlite_items::Items;
+use java_tree::{Kind, Lexeme, Param, Ty};
 use std::alloc::Global;
 
 /// How many parameters a method or constructor has at most (JVMS 8, 4.3.3).
@@ -66,7 +66,10 @@ fn some_parameters(alloc: Global, tokens: &mut Tokens) -> Result<Items<Param>, S
 
 /// Reads parameters in parentheses, at most 255 (JLS 8, 8.4.1).
 #[tactic(auto, unfolding(crate::specs::Reading::parameters))]
-pub fn read_parameters(alloc: Global, tokens: &mut Tokens) -> Result<Items<Param>, SyntaxError>
+pub(crate) fn read_parameters(
+    alloc: Global,
+    tokens: &mut Tokens,
+) -> Result<Items<Param>, SyntaxError>
     ensures { Steps spec.parameters tokens.old result tokens.new }
 {
     tokens.sign(Kind::LParen)?;
@@ -86,8 +89,8 @@ pub fn read_parameters(alloc: Global, tokens: &mut Tokens) -> Result<Items<Param
 fn thrown_after(
     alloc: Global,
     tokens: &mut Tokens,
-    found: Items<Items<Word>>,
-) -> Result<Items<Items<Word>>, SyntaxError>
+    found: Items<Items<Lexeme>>,
+) -> Result<Items<Items<Lexeme>>, SyntaxError>
     ensures { Steps (spec.after k.Comma spec.qualified found) tokens.old result tokens.new }
 {
     let mut found = found;
@@ -99,8 +102,8 @@ fn thrown_after(
 fn more_throws(
     alloc: Global,
     tokens: &mut Tokens,
-    found: Items<Items<Word>>,
-) -> Result<Items<Items<Word>>, SyntaxError>
+    found: Items<Items<Lexeme>>,
+) -> Result<Items<Items<Lexeme>>, SyntaxError>
     ensures { Steps (turns (sees k.Comma) (spec.after k.Comma spec.qualified) found) tokens.old result tokens.new }
 {
     let mut found = found;
@@ -111,7 +114,7 @@ fn more_throws(
 }
 
 #[tactic(auto, unfolding(crate::specs::Reading::some_throws))]
-fn some_throws(alloc: Global, tokens: &mut Tokens) -> Result<Items<Items<Word>>, SyntaxError>
+fn some_throws(alloc: Global, tokens: &mut Tokens) -> Result<Items<Items<Lexeme>>, SyntaxError>
     ensures { Steps spec.some_throws tokens.old result tokens.new }
 {
     tokens.sign(Kind::Throws)?;
@@ -122,7 +125,10 @@ fn some_throws(alloc: Global, tokens: &mut Tokens) -> Result<Items<Items<Word>>,
 
 /// Reads `throws` and what it names, if it stands next (JLS 8, 8.4.6).
 #[tactic(auto, unfolding(crate::specs::Reading::throws))]
-pub fn read_throws(alloc: Global, tokens: &mut Tokens) -> Result<Items<Items<Word>>, SyntaxError>
+pub(crate) fn read_throws(
+    alloc: Global,
+    tokens: &mut Tokens,
+) -> Result<Items<Items<Lexeme>>, SyntaxError>
     ensures { Steps spec.throws tokens.old result tokens.new }
 {
     if tokens.sees(Kind::Throws) {
@@ -134,7 +140,7 @@ pub fn read_throws(alloc: Global, tokens: &mut Tokens) -> Result<Items<Items<Wor
 
 /// Reads the result of a method: a type, or `None` for `void` (JLS 8, 8.4.5).
 #[tactic(auto, unfolding(crate::specs::Reading::result_type))]
-pub fn read_result(alloc: Global, tokens: &mut Tokens) -> Result<Option<Ty>, SyntaxError>
+pub(crate) fn read_result(alloc: Global, tokens: &mut Tokens) -> Result<Option<Ty>, SyntaxError>
     ensures { Steps spec.result_type tokens.old result tokens.new }
 {
     if tokens.sees(Kind::Void) {

@@ -32,12 +32,12 @@ follow-down : (text : List ℕ) (low from : ℕ) (ts : List Token) (end : ℕ) �
 follow-down text low from [] end less f = omega arith
 follow-down text low from (t ∷ ts) end less (begins, some, bytes, rest) = (omega arith, some, bytes, rest)
 
-follow-within : (text : List ℕ) (from : ℕ) (ts : List Token) (end : ℕ) → Follow text from ts end → from ≤ end
+pub follow-within : (text : List ℕ) (from : ℕ) (ts : List Token) (end : ℕ) → Follow text from ts end → from ≤ end
 follow-within text from [] end f = f
 follow-within text from (t ∷ ts) end (begins, some, bytes, rest) = let more : t.span.end ≤ end = follow-within text t.span.end ts end rest in omega arith
 
 -- behind a phrase the tokens still follow
-follow-behind : (text : List ℕ) (from : ℕ) (ts rest : List Token) (end : ℕ) → Spent ts rest → Follow text from ts end → Follow text from rest end
+pub follow-behind : (text : List ℕ) (from : ℕ) (ts rest : List Token) (end : ℕ) → Spent ts rest → Follow text from ts end → Follow text from rest end
 follow-behind text from ts rest end (taken, is) f =
     let (mid, first, second) = follow-parts text from ts taken rest end is f in
     follow-down text from mid rest end (follow-within text from taken mid first) second
@@ -63,7 +63,7 @@ type-follows text from c ts rest end (t1, (t0, (p, is), (brace, left, opens)), (
     let (place, header, later) = follow-parts text from ts c.tokens t0 end is f in
     let P : List Token → Type 0 = λ l. Follow text place l end in
     let (begins, some, bytes, inner) = subst P left later in
-    let (last, ms, after) = members text brace.span.end c.kind c.name.name c.members t1 t2 end each inner in
+    let (last, ms, after) = members text brace.span.end c.kind c.name.text c.members t1 t2 end each inner in
     let Q : List Token → Type 0 = λ l. Follow text last l end in
     let (starts, more, letters, behind) = subst Q right after in
     let apart : place ≤ brace.span.end = omega arith in

@@ -4,7 +4,7 @@ use Rattle.std.specs.List.{flat_map}
 use Rattle.std.specs.Str.{bytes_eq}
 use Rattle.java_tree.specs.declared.file.ClassTree.{ClassTree}
 use Rattle.java_tree.specs.declared.member.MemberTree.{MemberTree}
-use Rattle.java_tree.specs.declared.token.Word.{Word}
+use Rattle.java_tree.specs.declared.token.Lexeme.{Lexeme}
 use Rattle.desk_base.specs.declared.key.PromiseName.{PromiseName}
 use Rattle.promise_grammar.specs.Kind.{name_of}
 use Rattle.promise_grammar.specs.declared.member.MemberContent.{MemberContent}
@@ -157,19 +157,19 @@ found_from class regions locks scoped (k ∷ ks) [] (m ∷ ms) f = f
 found_from class regions locks scoped (k ∷ ks) (a ∷ rest) (m ∷ ms) f =
     found_from class regions locks scoped ks rest ms (found_more k (promises_of (member_facts k class regions locks m) m a scoped) f)
 
-abbrev pub names_of : List Word → List (List ℕ)
-names_of words = map (λ w. w.name) words
+abbrev pub names_of : List Lexeme → List (List ℕ)
+names_of words = map (λ w. w.text) words
 
 -- what is found in the header and then in the members
 abbrev pub found_with : ClassTree → List Mark → List (List Mark) → Kinds → Kinds → List (Option ScrubCode) → Found
 found_with class header members regions locks codes =
-    found_from class.name.name regions locks (scoped_of (header_site class.kind) header) (member_keys class) members class.members
-    (found_more (text_of class.name.name) (header_from class.name.name locks (header_site class.kind) header codes no_promises) found_nothing)
+    found_from class.name.text regions locks (scoped_of (header_site class.kind) header) (member_keys class) members class.members
+    (found_more (text_of class.name.text) (header_from class.name.text locks (header_site class.kind) header codes no_promises) found_nothing)
 
 abbrev pub face_by : ClassTree → List RegionDecl → Found → List Assumption → Face
 face_by class regions found assumptions = record {
   kind = class.kind;
-  name = class.name.name;
+  name = class.name.text;
   implements = names_of class.implements;
   fields = field_faces class;
   members = member_faces class;
@@ -183,7 +183,7 @@ face_by class regions found assumptions = record {
 -- the surface of a class, by its annotations, the regions and locks that stand, and the header's codes
 abbrev pub face_with : ClassTree → List Mark → List (List Mark) → List RegionDecl → Kinds → Kinds → List (Option ScrubCode) → Face
 face_with class header members regions region_kinds lock_kinds codes =
-    face_by class regions (found_with class header members region_kinds lock_kinds codes) (assumptions_of lock_kinds class.name.name header codes)
+    face_by class regions (found_with class header members region_kinds lock_kinds codes) (assumptions_of lock_kinds class.name.text header codes)
 
 -- the regions and locks of a header that stand, and the codes of its annotations
 abbrev pub HeaderScrubbed : Site → List FieldFace → List Mark → List RegionDecl → List Lock → List (Option ScrubCode) → Type 0
