@@ -8,10 +8,9 @@ ghost use Rattle.java_heads.specs.Reading as spec;
 
 use crate::names::read_qualified;
 use crate::nest::{Frame, Nest, Opened};
-use desk_base::Span;
+use desk_base::{Items, Span};
 use java_phrases::{SyntaxError, Tokens};
 use java_tree::{Annot, AnnotLayer, Elem, Elements, InnerAnnot, Kind, Lexeme};
-use sqlite_items::Items;
 use std::alloc::Global;
 
 /// The word `value` and its `=`, if a name stands next.

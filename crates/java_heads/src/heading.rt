@@ -13,10 +13,9 @@ use crate::lines::read_perhaps;
 use crate::member::{read_field_end, read_named};
 use crate::modifiers::{modifiers_fit, read_all_modifiers};
 use crate::parameters::{read_parameters, read_throws};
-use desk_base::{Name, Span};
+use desk_base::{Items, Name, Span};
 use java_phrases::{SyntaxError, Tokens, read_type};
 use java_tree::{Field, Kind, Lexeme, Mod, Param, Ty};
-use sqlite_items::Items;
 use std::alloc::Global;
 
 /// A method up to its body. Its result is `None` for `void`.

@@ -7,9 +7,9 @@ ghost use Rattle.java_heads.specs.Reading as spec;
 use crate::declaration::Declaration;
 use crate::modifiers::read_modifiers;
 use crate::parameters::{read_parameters, read_result, read_throws};
+use desk_base::Items;
 use java_phrases::{SyntaxError, Tokens, read_type};
 use java_tree::{Field, Init, Kind, Lexeme, Mod, Sig, Ty};
-use sqlite_items::Items;
 use std::alloc::Global;
 
 #[tactic(auto, unfolding(crate::specs::Reading::small))]

@@ -8,9 +8,9 @@ ghost use Rattle.java_heads.specs.Reading as spec;
 
 use crate::annotation::annotation;
 use crate::declaration::Declaration;
+use desk_base::Items;
 use java_phrases::{SyntaxError, Tokens};
 use java_tree::{Kind, Mod, ModWord};
-use sqlite_items::Items;
 use std::alloc::Global;
 
 fn kind_of(word: ModWord) -> Kind

@@ -6,9 +6,9 @@ ghost use Rattle.java_phrases.specs.Parser.{word, turns};
 ghost use Rattle.java_phrases.specs.Cursor.{ahead, Steps};
 ghost use Rattle.java_heads.specs.Reading as spec;
 
+use desk_base::Items;
 use java_phrases::{SyntaxError, Tokens};
 use java_tree::{Kind, Lexeme};
-use sqlite_items::Items;
 use std::alloc::Global;
 
 #[tactic(auto, unfolding(crate::specs::Reading::goes_on))]

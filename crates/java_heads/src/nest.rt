@@ -1,9 +1,8 @@
 //! Annotations whose elements are still being read. They are kept in a list and not on the stack, as
 //! they may nest as deep as a file is long.
 
-use desk_base::Span;
+use desk_base::{Items, Span};
 use java_tree::{AnnotLayer, Elem, InnerAnnot, Lexeme};
-use sqlite_items::Items;
 
 /// An annotation that is open, and its elements so far. Another one is to come.
 #[derive(Drop)]

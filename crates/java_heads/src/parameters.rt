@@ -9,9 +9,9 @@ ghost use Rattle.java_heads.specs.Reading as spec;
 use crate::declaration::Declaration;
 use crate::modifiers::read_modifiers;
 use crate::names::read_qualified;
+use desk_base::Items;
 use java_phrases::{SyntaxError, Tokens, read_type};
 use java_tree::{Kind, Lexeme, Param, Ty};
-use sqlite_items::Items;
 use std::alloc::Global;
 
 /// How many parameters a method or constructor has at most (JVMS 8, 4.3.3).

@@ -12,7 +12,7 @@ use Rattle.java_phrases.specs.declared.tokens.Tokens.{Tokens}
 use Rattle.java_phrases.specs.Cursor.{ahead, from_start}
 use Rattle.java_phrases.specs.Parser.{next_kind}
 use Rattle.java_phrases.proofs.Phrases.{next-sign}
-use Rattle.java_phrases.specs.Answers.{Gives, Takes}
+use Rattle.java_phrases.specs.Answers.{Gives, Takes, Finds}
 use Rattle.java_heads.specs.Answers.{field_with}
 use Rattle.java_heads.proofs.Parts.{ahead-same}
 use Rattle.java_heads.specs.Headings.{HeadingSpells, BodyFollows, OneHeading}

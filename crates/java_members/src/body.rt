@@ -6,12 +6,11 @@ ghost use Rattle.java_statements.specs.Spelling.{BlockSpells};
 ghost use Rattle.java_phrases.specs.Answers.{Finds};
 ghost use Rattle.java_members.specs.Parts.{Completes, Whole};
 
-use desk_base::Name;
+use desk_base::{Items, Name};
 use java_heads::{CtorHeading, Heading, MainHeading, MethodHeading, read_heading};
 use java_phrases::{SyntaxError, Tokens};
 use java_statements::read_block;
 use java_tree::{Block, Ctor, Main, MemberTree, Method};
-use sqlite_items::Items;
 use std::alloc::Global;
 
 /// How many nodes there are at most on a path of a member's tree.

@@ -9,10 +9,9 @@ ghost use Rattle.java_members.specs.Spelling.{MemberSpells};
 ghost use Rattle.java_members.specs.Parts.{Whole, member_with};
 
 use crate::body::whole;
-use desk_base::Name;
+use desk_base::{Items, Name};
 use java_phrases::{SyntaxError, Tokens};
 use java_tree::{MemberTree, Token};
-use sqlite_items::Items;
 use std::alloc::Global;
 
 fn with_tokens(member: MemberTree, tokens: Items<Token>) -> MemberTree

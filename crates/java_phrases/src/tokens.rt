@@ -6,9 +6,8 @@ ghost use Rattle.std.specs.Option.{option_copied};
 ghost use Rattle.java_phrases.specs.Parser as spec;
 
 use crate::error::SyntaxError;
-use desk_base::{Name, OutOfMemory, Span};
+use desk_base::{Items, Name, OutOfMemory, Span};
 use java_tree::{Kind, Lexeme, Token};
-use sqlite_items::Items;
 use std::alloc::Global;
 
 /// The tokens that are still to be read, and those of the part at hand that were.
