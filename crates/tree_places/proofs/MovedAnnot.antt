@@ -1,11 +1,10 @@
 -- What tokens spell as an annotation, moved tokens spell as the moved annotation.
-use Rattle.std.proofs.Common.{◌≡◌, ℕ, zero, suc, List, [], ◌∷◌, ◌++◌, map, flat_map, Option, Some, None, refl, ap, ap₂, ◌∙◌, sym}
+use Rattle.std.proofs.Common.{◌≡◌, ℕ, zero, suc, List, [], ◌∷◌, ◌++◌, map, Option, Some, None, refl, ap, ◌∙◌}
 use Rattle.std.specs.Option.{option_map}
 use Rattle.std.proofs.lemmas.List.{map-append}
 use Rattle.desk_base.specs.declared.span.Span.{Span}
 use Rattle.java_tree.specs.declared.kind.Kind.{Kind}
 use Rattle.java_tree.specs.declared.kind.Kind.TheVariants as k
-use Rattle.java_tree.specs.declared.token.Token.{Token}
 use Rattle.java_tree.specs.declared.token.Lexeme.{Lexeme}
 use Rattle.java_tree.specs.declared.member.Annot.{Annot}
 use Rattle.java_tree.specs.declared.member.AnnotLayer.{AnnotLayer}
@@ -17,8 +16,8 @@ use Rattle.java_tree.specs.declared.member.Elem.TheVariants as element
 use Rattle.java_phrases.specs.Phrase.{Phrase, Spelled}
 use Rattle.java_heads.specs.Annotation.{Joined, Qualified, ValueWord, Held, elems_of, inner_of, Listed, ElementsBy, AnnotBy, inner_annot, InnerSpells, ElemBy, ElemWithin, AnnotSpells}
 use Rattle.tree_places.specs.Moved.{moved_lexeme, moved_lexemes}
-use Rattle.tree_places.specs.MovedAnnot.{moved_elem, moved_elements, moved_layer, moved_inner, moved_annot}
-use Rattle.tree_places.proofs.Moves.{TakesMoved, Moves, moves-never, moves-nothing, moves-mark, moves-sign, moves-lexeme, ◌then◌, moves-if, moves-when, moves-each, moves-separated}
+use Rattle.tree_places.specs.MovedAnnot.{moved_elem, moved_elements, moved_annot_layer, moved_inner, moved_annot}
+use Rattle.tree_places.proofs.Moves.{Moves, moves-never, moves-nothing, moves-mark, moves-sign, moves-lexeme, ◌then◌, moves-if, moves-when, moves-each, moves-separated}
 
 module _ (place : Span → Span) where
   pub moves-joined : {A : Type 0} (sign : Kind) (f : A → A) (P Q : A → Phrase) → ((x : A) → Moves place (P x) (Q (f x))) → (xs : List A) → Moves place (Joined sign P xs) (Joined sign Q (map f xs))
@@ -67,7 +66,7 @@ module _ (place : Span → Span) where
     moves-elements (elements.Many opening value elems closing) is =
         moves-sign k.LParen opening then moves-value value then moves-mark k.LBrace then moves-listed elems is then moves-mark k.RBrace then moves-sign k.RParen closing
 
-    moves-layer : (l : AnnotLayer) (is : List InnerAnnot) → Moves place (AnnotBy Inner l is) (AnnotBy Inner (moved_layer place l) (moved_inners is))
+    moves-layer : (l : AnnotLayer) (is : List InnerAnnot) → Moves place (AnnotBy Inner l is) (AnnotBy Inner (moved_annot_layer place l) (moved_inners is))
     moves-layer l is = moves-sign k.At l.at then moves-qualified l.name then moves-elements l.elements is
 
     moves-inner : (depth : ℕ) (is : List InnerAnnot) → Moves place (InnerSpells Inner depth is) (InnerSpells Inner depth (moved_inners is))
@@ -75,7 +74,7 @@ module _ (place : Span → Span) where
       moves = λ ts rest s.
           let t = (moves-layer s.0 s.1).moves ts rest s.3 in
           let e = ap moved_inners s.2 ∙ last-moved s.1 (inner_annot depth s.0) in
-          record { own = t.own; is = t.is; anywhere = λ other. (moved_layer place s.0, moved_inners s.1, e, t.anywhere other) };
+          record { own = t.own; is = t.is; anywhere = λ other. (moved_annot_layer place s.0, moved_inners s.1, e, t.anywhere other) };
     }
 
     moves-elem : (depth : ℕ) (e : Elem) (is : List InnerAnnot) → Moves place (ElemBy Inner depth e is) (ElemBy Inner depth (moved_elem place e) (moved_inners is))

@@ -1,10 +1,8 @@
 -- What tokens spell as a file, moved tokens spell as the moved file.
-use Rattle.std.proofs.Common.{◌≡◌, ℕ, List, [], ◌∷◌, Option, Some, None, ap, ◌∙◌, sym, subst}
+use Rattle.std.proofs.Common.{ℕ, List, Option, Some, None}
 use Rattle.std.specs.Option.{option_map}
-use Rattle.std.proofs.lemmas.List.{append-nil}
 use Rattle.desk_base.specs.declared.span.Span.{Span}
 use Rattle.java_tree.specs.declared.kind.Kind.TheVariants as k
-use Rattle.java_tree.specs.declared.token.Token.{Token}
 use Rattle.java_tree.specs.declared.member.MemberTree.{MemberTree}
 use Rattle.java_tree.specs.declared.member.MemberTree.TheVariants as member
 use Rattle.java_tree.specs.declared.file.TypeKind.{TypeKind}
@@ -14,7 +12,7 @@ use Rattle.java_tree.specs.declared.file.Import.{Import}
 use Rattle.java_tree.specs.declared.file.ClassTree.{ClassTree}
 use Rattle.java_tree.specs.declared.file.FileTree.{FileTree}
 use Rattle.java_heads.specs.Spelling.{Star, ImportSpells}
-use Rattle.java_reader.specs.Spelling.{SigMember, TypeMember, header_of, TypeSpells, PackagePart, FileSpells, Spells}
+use Rattle.java_reader.specs.Spelling.{SigMember, TypeMember, header_of, TypeSpells, PackagePart, FileSpells}
 use Rattle.tree_places.specs.MovedMember.{moved_member}
 use Rattle.tree_places.specs.MovedFile.{moved_package, moved_import, moved_class, moved_file}
 use Rattle.tree_places.proofs.Moves.{Moves, moves-never, moves-nothing, moves-mark, moves-sign, ◌then◌, moves-each, moves-optional}

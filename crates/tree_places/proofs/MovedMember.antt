@@ -1,10 +1,9 @@
 -- What tokens spell as a member or a header, moved tokens spell as the moved one.
-use Rattle.std.proofs.Common.{◌≡◌, ◌+◌, cond, ℕ, zero, suc, List, [], ◌∷◌, ◌++◌, map, Bool, Option, Some, None, refl, ap, ◌∙◌, sym, subst}
+use Rattle.std.proofs.Common.{◌≡◌, ◌+◌, cond, ℕ, List, [], ◌∷◌, ◌++◌, Bool, Option, Some, None, refl, ap, ◌∙◌, sym, subst}
 use Rattle.std.specs.List.{fold}
 use Rattle.std.specs.Option.{option_map}
 use Rattle.std.proofs.lemmas.List.{append_cancel_right, length-map}
 use Rattle.desk_base.specs.declared.span.Span.{Span}
-use Rattle.java_tree.specs.declared.kind.Kind.{Kind}
 use Rattle.java_tree.specs.declared.kind.Kind.TheVariants as k
 use Rattle.java_tree.specs.declared.token.Token.{Token}
 use Rattle.java_tree.specs.declared.token.Lexeme.{Lexeme}
@@ -20,11 +19,12 @@ use Rattle.java_tree.specs.declared.member.MemberTree.{MemberTree}
 use Rattle.java_tree.specs.declared.member.MemberTree.TheVariants as member
 use Rattle.java_tree.specs.declared.file.TypeKind.{TypeKind}
 use Rattle.java_tree.specs.declared.file.TypeKind.TheVariants as sort
-use Rattle.java_phrases.specs.Phrase.{Phrase, Spelled, Sign}
+use Rattle.java_phrases.specs.Phrase.{Phrase, Spelled}
 use Rattle.java_heads.specs.declared.declaration.Declaration.{Declaration}
 use Rattle.java_heads.specs.declared.declaration.Declaration.TheVariants as of
 use Rattle.java_heads.specs.declared.header.Header.{Header}
 use Rattle.java_heads.specs.Modifiers.{FitsAs, kind_of, word_is, words_that}
+use Rattle.java_heads.specs.Annotation.{Qualified}
 use Rattle.java_heads.specs.Spelling.{Kept, ModSpells, Mods, ParamSpells, Params, Throws, ResultSpells, InitSpells, InitPart, SigSpells, Implements, type_word, declared_as, HeaderParts, HeaderSpells, object_name, string_name}
 use Rattle.java_members.specs.Spelling.{MemberParts, MemberSpells, tokens_of}
 use Rattle.tree_places.specs.Moved.{moved_lexeme, moved_lexemes, moved_tokens, moved_ty}

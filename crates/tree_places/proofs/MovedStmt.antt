@@ -22,7 +22,7 @@ use Rattle.java_phrases.specs.Phrase.{Phrase}
 use Rattle.java_phrases.specs.Texts.{thread_name}
 use Rattle.java_statements.specs.Spelling.{sign_of_assign, sign_of_step, start_name, is_call, is_new, TargetBy, TargetSpells, ActionSpells, LocalSpells, Condition, FirstSpells, ForHeadSpells, MonitorSpells, DeclarationSpells, ItemSpells, BlockBy, StmtBy, StmtSpells, BlockSpells}
 use Rattle.tree_places.specs.MovedExpr.{moved_expr}
-use Rattle.tree_places.specs.MovedStmt.{moved_action, moved_local, moved_first, moved_monitor, item_layer, stmt_layer, block_layer, moved_item, moved_stmt, moved_block}
+use Rattle.tree_places.specs.MovedStmt.{moved_action, moved_local, moved_first, moved_monitor, moved_item_layer, moved_stmt_layer, moved_block_layer, moved_item, moved_stmt, moved_block}
 use Rattle.tree_places.proofs.Moves.{Moves, moves-never, moves-nothing, moves-mark, moves-sign, moves-lexeme, moves-ty, ◌then◌, moves-if, moves-when, moves-optional, moves-named, moves-each}
 use Rattle.tree_places.proofs.MovedExpr.{out_moved, inward, moves-expr}
 
@@ -30,22 +30,22 @@ module _ (place : Span → Span) where
   -- ---- what trees are made of, once they are moved
 
   abbrev items_by : BlockItem-F BlockItem Stmt Block → BlockItem
-  items_by f = roll-BlockItem (item_layer place f)
+  items_by f = roll-BlockItem (moved_item_layer place f)
 
   abbrev stmts_by : Stmt-F BlockItem Stmt Block → Stmt
-  stmts_by f = roll-Stmt (stmt_layer place f)
+  stmts_by f = roll-Stmt (moved_stmt_layer place f)
 
   abbrev blocks_by : Block-F BlockItem Stmt Block → Block
-  blocks_by f = roll-Block (block_layer place f)
+  blocks_by f = roll-Block (moved_block_layer place f)
 
   abbrev item_inward : BlockItem-F BlockItem Stmt Block → BlockItem-F BlockItem Stmt Block
-  item_inward f = item_layer place (map-BlockItem BlockItem Stmt Block BlockItem Stmt Block (moved_item place) (moved_stmt place) (moved_block place) f)
+  item_inward f = moved_item_layer place (map-BlockItem BlockItem Stmt Block BlockItem Stmt Block (moved_item place) (moved_stmt place) (moved_block place) f)
 
   abbrev stmt_inward : Stmt-F BlockItem Stmt Block → Stmt-F BlockItem Stmt Block
-  stmt_inward f = stmt_layer place (map-Stmt BlockItem Stmt Block BlockItem Stmt Block (moved_item place) (moved_stmt place) (moved_block place) f)
+  stmt_inward f = moved_stmt_layer place (map-Stmt BlockItem Stmt Block BlockItem Stmt Block (moved_item place) (moved_stmt place) (moved_block place) f)
 
   abbrev block_inward : Block-F BlockItem Stmt Block → Block-F BlockItem Stmt Block
-  block_inward f = block_layer place (map-Block BlockItem Stmt Block BlockItem Stmt Block (moved_item place) (moved_stmt place) (moved_block place) f)
+  block_inward f = moved_block_layer place (map-Block BlockItem Stmt Block BlockItem Stmt Block (moved_item place) (moved_stmt place) (moved_block place) f)
 
   pub out_item : (i : BlockItem) → out-BlockItem (moved_item place i) ≡ item_inward (out-BlockItem i)
   unfolding moved_item moved_stmt moved_block
