@@ -19,6 +19,7 @@ pub record TakesMoved (place : Span → Span) (Q : Phrase) (ts rest : List Token
   pub is : ts ≡ own ++ rest
   pub anywhere : (other : List Token) → Q (moved_tokens place own ++ other) other
 
+-- What P spells, Q spells where its tokens are moved.
 pub record Moves (place : Span → Span) (P Q : Phrase) : Type 0 where
   pub moves : (ts rest : List Token) → P ts rest → TakesMoved place Q ts rest
 

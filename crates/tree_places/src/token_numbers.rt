@@ -60,9 +60,8 @@ impl<'a> TokenNumbers<'a> {
     {
         match expr {
             Expr::Int(word) | Expr::Str(word) | Expr::Name(word) => self.number_of(word.span),
-            Expr::True(at) | Expr::False(at) | Expr::Null(at) | Expr::This(at) => self.number_of(
-                *at,
-            ),
+            Expr::True(at) | Expr::False(at) => self.number_of(*at),
+            Expr::Null(at) | Expr::This(at) => self.number_of(*at),
             Expr::Call(name, _, _) => self.number_of(name.span),
             Expr::New(at, _, _, _) => self.number_of(*at),
             Expr::Paren(opening, _, _) => self.number_of(*opening),
