@@ -29,7 +29,11 @@ fn put_region(out: &mut String, region: &RegionContent) -> Result<()> {
         Some(Visibility::Protected) => "region protected ",
         Some(Visibility::Private) => "region private ",
     })?;
-    put_name(out, if region.is_static { "static " } else { "" }, &region.name)?;
+    put_name(
+        out,
+        if region.is_static { "static " } else { "" },
+        &region.name,
+    )?;
     match &region.parent {
         None => Ok(()),
         Some(parent) => put_name(out, " under ", parent),
