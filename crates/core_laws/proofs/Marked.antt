@@ -1,17 +1,18 @@
 -- Marks and monitors through the step of one thread.
-use Rattle.std.proofs.Common.{◌≡◌, ◌≢◌, ℕ, zero, suc, ◌+◌, ◌==◌, ⊎_elim, Bool, true, false, List, [], ◌∷◌, ◌++◌, Option, Some, None, if◌then◌else◌, map, slice_get, slice_set, replicate, length, refl, sym, ap, ◌∙◌, arith}
+use Rattle.std.proofs.Common.{◌≡◌, ◌≢◌, ℕ, zero, suc, ◌+◌, ◌<◌, ◌==◌, ⊎_elim, Bool, true, false, List, [], ◌∷◌, ◌++◌, Option, Some, None, if◌then◌else◌, map, slice_get, slice_set, replicate, length, refl, sym, ap, ◌∙◌, arith}
 use Rattle.std.specs.Option.{option_to_list}
 use Rattle.std.proofs.lemmas.Bool.Decides.{eqb_tells}
 use Rattle.core_model.specs.Code.{Code, Done, Do, If, While, Enter, EnterClass, Exit, ◌⧺◌}
-use Rattle.core_model.specs.Frames.{with_objects, with_temps, with_rest, after, goes, ends}
+use Rattle.core_model.specs.Frames.{with_objects, with_temps, with_rest, after, goes_on, ends}
 use Rattle.core_model.specs.Straight.{branch_from, turn}
 use Rattle.core_model.specs.Calling.{begins, start_with}
 use Rattle.core_model.specs.Monitors.{take_monitor, enter_from, enter_class, exit_object}
 use Rattle.core_model.specs.Objects.{changed, put_for, entered, exited, blocks, fresh_object}
 use Rattle.core_model.specs.Units.{unit_number, call_for, call_of}
 use Rattle.core_model.specs.Begin.{begin, begun_thread, begun_objects, main_thread, holders_from, static_fresh, all_fresh}
-use Rattle.core_model.specs.Step.{given, left, dropped, next, next_exit, leave, unwind, move, moved, put, step_of, step, run}
+use Rattle.core_model.specs.Step.{given, resumed, caller_ended, running_step, next_exit, leaving_step, ending_step, call_step, thread_step, with_step, step_of, step, run}
 use Rattle.core_model.specs.declared.instr.Note.{Note}
+use Rattle.core_model.specs.declared.program.TheConstants.{MAIN}
 use Rattle.core_model.specs.declared.program.Program.{Program}
 use Rattle.core_model.specs.declared.program.ClassInfo.{ClassInfo}
 use Rattle.core_model.specs.declared.program.UnitCode.{UnitCode}
@@ -28,11 +29,11 @@ use Rattle.core_model.specs.declared.object.Obj.{Obj}
 use Rattle.core_model.specs.declared.value.Value.{Value}
 use Rattle.core_model.specs.declared.value.Value.TheVariants as value
 use Rattle.core_laws.specs.Places.{again, Each, EveryCall}
-use Rattle.core_laws.specs.Marks.{Unmarked, Spined, HasNoMarks, marks_in, marks_in_calls, marks_by, entries_of, AllSettled, Counted}
+use Rattle.core_laws.specs.Marks.{Unmarked, Spined, HasNoMarks, marks_in, marks_in_calls, marks_by, entries_if, entries_of, owner_of, owner_at, AllSettled, Counted}
 use Rattle.core_laws.proofs.Lists.{each-get}
 use Rattle.core_laws.proofs.Owners.{get-set, get-other, SameMonitors, same-write, same-made, same-fresh, Free, free-entries, free-settled, free-fresh, Counts, counts-entered, counts-exited}
 use Rattle.core_laws.proofs.Plains.{IsKeeping, kept-plain}
-use Rattle.core_laws.proofs.Carried.{Has, UnitsHave, kept-step_of, begin-each}
+use Rattle.core_laws.proofs.Carried.{Has, UnitsHave, step-has, begin-has}
 use Rattle.core_laws.proofs.Spines.{unmarked-spined, spined-closed, unmarked-none, marks-append, marks_from, marks-next}
 
 abbrev IfUnmarked : Option Call → Type 0
@@ -197,7 +198,7 @@ module _ (p : Program) (bare : HasNoMarks p) (t : ℕ) (os : List Obj) where
   kept-enter f n b (value.Ref r ∷ ts) h g =
       chosen (blocks t (slice_get f.objects r)) refl
     where
-      chosen : (c : Bool) → blocks t (slice_get f.objects r) ≡ c → Kept (if c then goes (with_temps (with_rest f (Enter n b f.call.rest)) (value.Ref r ∷ ts)) else take_monitor t (with_temps f ts) n b r (slice_get f.objects r))
+      chosen : (c : Bool) → blocks t (slice_get f.objects r) ≡ c → Kept (if c then goes_on (with_temps (with_rest f (Enter n b f.call.rest)) (value.Ref r ∷ ts)) else take_monitor t (with_temps f ts) n b r (slice_get f.objects r))
       chosen true e = record { own = g.own; others = g.others; settled = g.settled; fresh = λ q. refl }
       chosen false e = kept-take (with_temps f ts) n b r (slice_get f.objects r) refl e h (temps f ts g)
 
@@ -205,24 +206,24 @@ module _ (p : Program) (bare : HasNoMarks p) (t : ℕ) (os : List Obj) where
   kept-enter_class f n c b h g =
       chosen (blocks t (slice_get f.objects c)) refl
     where
-      chosen : (d : Bool) → blocks t (slice_get f.objects c) ≡ d → Kept (if d then goes (with_rest f (EnterClass n c b f.call.rest)) else take_monitor t f n b c (slice_get f.objects c))
+      chosen : (d : Bool) → blocks t (slice_get f.objects c) ≡ d → Kept (if d then goes_on (with_rest f (EnterClass n c b f.call.rest)) else take_monitor t f n b c (slice_get f.objects c))
       chosen true e = record { own = g.own; others = g.others; settled = g.settled; fresh = λ q. refl }
       chosen false e = kept-take f n b c (slice_get f.objects c) refl e h g
 
   -- ---- leaving
 
   kept-left : (ns : List Obj) (o : Option Value) (cs : List Call) → ((r : ℕ) → marks_in_calls r cs ≡ entries_of t (slice_get ns r))
-      → ((s r : ℕ) → s ≢ t → entries_of s (slice_get ns r) ≡ entries_of s (slice_get os r)) → AllSettled ns → Kept (left ns o cs)
+      → ((s r : ℕ) → s ≢ t → entries_of s (slice_get ns r) ≡ entries_of s (slice_get os r)) → AllSettled ns → Kept (resumed ns o cs)
   kept-left ns o [] own others settled = record { own = own; others = others; settled = settled; fresh = λ r. refl }
   kept-left ns None (c ∷ cs) own others settled = record { own = own; others = others; settled = settled; fresh = λ r. refl }
   kept-left ns (Some v) (c ∷ cs) own others settled = record { own = own; others = others; settled = settled; fresh = λ r. refl }
 
   kept-dropped : (ns : List Obj) (cs : List Call) → ((r : ℕ) → marks_in_calls r cs ≡ entries_of t (slice_get ns r))
-      → ((s r : ℕ) → s ≢ t → entries_of s (slice_get ns r) ≡ entries_of s (slice_get os r)) → AllSettled ns → Kept (dropped ns cs)
+      → ((s r : ℕ) → s ≢ t → entries_of s (slice_get ns r) ≡ entries_of s (slice_get os r)) → AllSettled ns → Kept (caller_ended ns cs)
   kept-dropped ns [] own others settled = record { own = own; others = others; settled = settled; fresh = λ r. refl }
   kept-dropped ns (c ∷ cs) own others settled = record { own = own; others = others; settled = settled; fresh = λ r. refl }
 
-  kept-next : (f : Frame) (k : Code) → Spined k → Good (with_rest f k) → Kept (next p t f k)
+  kept-next : (f : Frame) (k : Code) → Spined k → Good (with_rest f k) → Kept (running_step p t f k)
   kept-next f Done h g =
       kept-left f.objects (given f.call.gives None) f.below (λ r. omega (arith, g.own r)) g.others g.settled
   kept-next f (Do n i k) h g =
@@ -240,7 +241,7 @@ module _ (p : Program) (bare : HasNoMarks p) (t : ℕ) (os : List Obj) where
 
   kept-leave : (f : Frame) (v : Option Value) (o : Option (ℕ × Code))
       → ((r : ℕ) → marks_from r o + marks_in_calls r f.below ≡ entries_of t (slice_get f.objects r))
-      → ((s r : ℕ) → s ≢ t → entries_of s (slice_get f.objects r) ≡ entries_of s (slice_get os r)) → AllSettled f.objects → Kept (leave f v o)
+      → ((s r : ℕ) → s ≢ t → entries_of s (slice_get f.objects r) ≡ entries_of s (slice_get os r)) → AllSettled f.objects → Kept (leaving_step f v o)
   kept-leave f v None own others settled =
       kept-left f.objects (given f.call.gives v) f.below (λ r. omega (arith, own r)) others settled
   kept-leave f v (Some (r, k)) own others settled =
@@ -249,7 +250,7 @@ module _ (p : Program) (bare : HasNoMarks p) (t : ℕ) (os : List Obj) where
 
   kept-unwind : (f : Frame) (o : Option (ℕ × Code))
       → ((r : ℕ) → marks_from r o + marks_in_calls r f.below ≡ entries_of t (slice_get f.objects r))
-      → ((s r : ℕ) → s ≢ t → entries_of s (slice_get f.objects r) ≡ entries_of s (slice_get os r)) → AllSettled f.objects → Kept (unwind f o)
+      → ((s r : ℕ) → s ≢ t → entries_of s (slice_get f.objects r) ≡ entries_of s (slice_get os r)) → AllSettled f.objects → Kept (ending_step f o)
   kept-unwind f None own others settled = kept-dropped f.objects f.below (λ r. omega (arith, own r)) others settled
   kept-unwind f (Some (r, k)) own others settled =
       let g = exited-own f r k (slice_get f.objects r) refl own others settled in
@@ -258,14 +259,14 @@ module _ (p : Program) (bare : HasNoMarks p) (t : ℕ) (os : List Obj) where
   from : (f : Frame) → Good f → (r : ℕ) → marks_from r (next_exit f.call.rest) + marks_in_calls r f.below ≡ entries_of t (slice_get f.objects r)
   from f g r = ap (λ m. m + marks_in_calls r f.below) (sym (marks-next r f.call.rest)) ∙ g.own r
 
-  kept-move : (f : Frame) (m : Mode) → Spined f.call.rest → Good f → Kept (move p t f m)
+  kept-move : (f : Frame) (m : Mode) → Spined f.call.rest → Good f → Kept (call_step p t f m)
   kept-move f mode.Running h g = kept-next f f.call.rest h g
   kept-move f (mode.Leaving v) h g = kept-leave f v (next_exit f.call.rest) (from f g) g.others g.settled
   kept-move f mode.Ending h g = kept-unwind f (next_exit f.call.rest) (from f g) g.others g.settled
   kept-move f mode.Over h g = kept f mode.Over g
 
   kept-moved : (h : Thread) (cs : List Call) → Each (Has (λ _. Spined)) cs
-      → ((r : ℕ) → marks_in_calls r cs ≡ entries_of t (slice_get os r)) → AllSettled os → Kept (moved p t os h cs)
+      → ((r : ℕ) → marks_in_calls r cs ≡ entries_of t (slice_get os r)) → AllSettled os → Kept (thread_step p t os h cs)
   kept-moved h [] sp own settled = record { own = own; others = λ s r ne. refl; settled = settled; fresh = λ r. refl }
   kept-moved h (c ∷ cs) sp own settled =
       kept-move (record { objects = os; call = c; below = cs }) h.mode sp.0
@@ -282,7 +283,7 @@ started-marks (x ∷ xs) o zero r h = refl
 started-marks (x ∷ xs) o (suc s) r h = started-marks xs o s r h
 
 counted-put : (p : Program) (bare : HasNoMarks p) (c : Config) (t : ℕ) (now : Thread) (a : After) → slice_get c.threads t ≡ Some now → Counted c
-    → Kept p bare t c.objects a → Counted (put c t a)
+    → Kept p bare t c.objects a → Counted (with_step c t a)
 counted-put p bare c t now a e w k = record {
   exact = λ s r. started-marks (slice_set c.threads t (record { calls = a.calls; mode = a.mode })) a.started s r (k.fresh r)
       ∙ ⊎_elim (λ y. ap (λ (i : ℕ). marks_by r (slice_get (slice_set c.threads t (record { calls = a.calls; mode = a.mode })) i)) (sym y.1)
@@ -303,14 +304,14 @@ module _ (p : Program) (bare : HasNoMarks p) where
   counted-step_of c t None e sp w = w
   counted-step_of c t (Some now) e sp w =
       let P : Thread → Type 0 = λ th. Each (Has (λ _. Spined)) th.calls in
-      counted-put p bare c t now (moved p t c.objects now now.calls) e w
+      counted-put p bare c t now (thread_step p t c.objects now now.calls) e w
       (kept-moved p bare t c.objects now now.calls (each-get P c.threads t now e sp)
       (λ r. sym (ap (marks_by r) e) ∙ w.exact t r) w.settled)
 
   counted-run : (c : Config) (schedule : List ℕ) → EveryCall (Has (λ _. Spined)) c.threads → Counted c → Counted (run p c schedule)
   counted-run c [] sp w = w
   counted-run c (t ∷ schedule) sp w =
-      counted-run (step p c t) schedule (kept-step_of (λ _. Spined) (λ _. spined-closed) p spined-units c t (slice_get c.threads t) refl sp)
+      counted-run (step p c t) schedule (step-has (λ _. Spined) (λ _. spined-closed) p spined-units c t sp)
       (counted-step_of c t (slice_get c.threads t) refl sp w)
 
   free-holders : (c n : ℕ) (cs : List ClassInfo) (more : List Obj) → Each Free more → Each Free (holders_from c n cs ++ more)
@@ -326,7 +327,7 @@ module _ (p : Program) (bare : HasNoMarks p) where
 
   begun-marks : (mains : List ℕ) (s r : ℕ) → marks_by r (slice_get (map (begun_thread p) mains) s) ≡ 0
   begun-marks [] s r = refl
-  begun-marks (c ∷ mains) zero r = main-marks _ r (begun p bare 0 [] (unit_number p c 1 1) (value.Null ∷ []) Own)
+  begun-marks (c ∷ mains) zero r = main-marks _ r (begun p bare 0 [] (unit_number p c MAIN 1) (value.Null ∷ []) Own)
   begun-marks (c ∷ mains) (suc s) r = begun-marks mains s r
 
   pub counted-begin : (mains : List ℕ) → Counted (begin p mains)
@@ -337,4 +338,19 @@ module _ (p : Program) (bare : HasNoMarks p) where
 
   pub counted-whole : (mains schedule : List ℕ) → Counted (run p (begin p mains) schedule)
   counted-whole mains schedule =
-      counted-run (begin p mains) schedule (begin-each (λ _. Spined) (λ _. spined-closed) p spined-units mains) (counted-begin mains)
+      counted-run (begin p mains) schedule (begin-has (λ _. Spined) (λ _. spined-closed) p spined-units mains) (counted-begin mains)
+
+-- ---- owners
+
+owner-if : (t : ℕ) (w : Option ℕ) (m : ℕ) → 0 < entries_if t w m → w ≡ Some t
+owner-if t None m h = absurd (omega (arith, h))
+owner-if t (Some s) m h =
+    ⊎_elim (λ y. ap Some y.1)
+    (λ d. absurd (let z : entries_if t (Some s) m ≡ 0 = rw d.0 refl in omega (arith, h, z))) (eqb_tells s t)
+
+pub owned-by : (t : ℕ) (o : Option Obj) → 0 < entries_of t o → owner_of o ≡ Some t
+owned-by t None h = absurd (omega (arith, h))
+owned-by t (Some o) h = owner-if t o.owner o.count h
+
+pub marked-owner : (c : Config) → Counted c → (t r : ℕ) → 0 < marks_by r (slice_get c.threads t) → owner_at c r ≡ Some t
+marked-owner c w t r h = owned-by t (slice_get c.objects r) (omega (arith, h, w.exact t r))

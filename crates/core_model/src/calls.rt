@@ -51,7 +51,7 @@ impl Frame {
     {
         match call {
             Some(call) => {
-                let mut after = self.goes()?;
+                let mut after = self.goes_on()?;
                 after.calls.push(call)?;
                 Ok(after)
             }
@@ -206,7 +206,7 @@ impl Frame {
     {
         match call {
             Some(call) => {
-                let mut after = self.goes()?;
+                let mut after = self.goes_on()?;
                 after.started = Some(thread_of(alloc, call)?);
                 Ok(after)
             }
@@ -244,7 +244,7 @@ impl Frame {
         ensures { IfOk result (λ a. a ≡ spec.start_from program.now self (started ∷ self.call.temps)) }
     {
         match started {
-            Value::Null => self.goes(),
+            Value::Null => self.goes_on(),
             Value::Ref(object) => {
                 let class = self.objects.class_of(object);
                 self.start_in(alloc, program, started, class)

@@ -16,7 +16,7 @@ pub enum ObjKind {
 }
 
 /// An object: its fields, and its monitor's owner and count of entries.
-#[derive(Debug, Drop)]
+#[derive(Drop)]
 pub struct Obj {
     pub kind: ObjKind,
     pub fields: Items<Value>,

@@ -23,7 +23,7 @@ pub enum Initial {
     FreshObject,
 }
 
-#[derive(Debug, Drop)]
+#[derive(Drop)]
 pub struct FieldInfo {
     pub name: Name,
     pub is_static: bool,
@@ -40,7 +40,7 @@ pub struct UnitName {
 }
 
 /// A declared class or interface: its fields and members in written order.
-#[derive(Debug, Drop)]
+#[derive(Drop)]
 pub struct ClassInfo {
     pub name: Name,
     pub fields: Items<FieldInfo>,
@@ -48,7 +48,7 @@ pub struct ClassInfo {
 }
 
 /// A unit's code. Its locals are `this`, where there is one, the parameters and then the others.
-#[derive(Debug, Drop)]
+#[derive(Drop)]
 pub struct UnitCode {
     pub key: Text,
     pub class: ClassId,
@@ -59,7 +59,7 @@ pub struct UnitCode {
 
 /// A program: its classes and interfaces in order of name, its units, the classes with a main, and
 /// the names of members, of which the first three are `new`, `main` and `run`.
-#[derive(Debug, Drop)]
+#[derive(Drop)]
 pub struct Program {
     pub classes: Items<ClassInfo>,
     pub units: Items<UnitCode>,

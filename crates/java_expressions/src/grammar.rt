@@ -1,7 +1,7 @@
 //! The productions of expressions, each a function that reads it from the tokens ahead. Those that hold
 //! expressions take the reader of these as a parameter, so that each is proved by itself.
 
-ghost use Rattle.std.specs.Prelude.{◌≡◌, ◌≤◌, max, IfOk, IfErr};
+ghost use Rattle.std.specs.Prelude.{◌≡◌, ◌≤◌, ◌+◌, max, IfOk, IfErr};
 ghost use Rattle.java_tree.specs.declared.kind.Kind.TheVariants as k;
 ghost use Rattle.java_phrases.specs.Parser.{sees, turns};
 ghost use Rattle.java_expressions.specs.Reading as spec;
@@ -10,10 +10,9 @@ ghost use Rattle.java_expressions.specs.Nests.{Nests};
 
 use crate::operators::{goes_on, level_of, next_operator, sign_of};
 use crate::tall::{Arguments, Listed, Tall};
-use desk_base::Span;
+use desk_base::{Boxed, Items, Span};
 use java_phrases::{SyntaxError, Tokens};
 use java_tree::{BinaryOp, Expr, Kind, Lexeme};
-use sqlite_items::{Boxed, Items};
 use std::alloc::Global;
 
 #[tactic(auto, unfolding(crate::specs::Reading::small))]
@@ -46,6 +45,15 @@ fn greater(left: usize, right: usize) -> usize
     ensures { result ≡ max left right }
 {
     if left < right { right } else { left }
+}
+
+/// The height of a node over two parts of these heights.
+fn above(left: usize, right: usize) -> usize
+    requires left { left ≤ 255 }
+    requires right { right ≤ 255 }
+    ensures { result ≡ max left right + 1 }
+{
+    if left < right { right + 1 } else { left + 1 }
 }
 
 /// The list with one more at its end.
@@ -88,6 +96,18 @@ fn select_tree(alloc: Global, from: Tall, name: Lexeme) -> Result<Tall, SyntaxEr
     })
 }
 
+/// A call on an expression of this height.
+fn call_on(from: Boxed<Expr>, height: usize, name: Lexeme, arguments: Arguments) -> Tall
+    requires from { height ≤ 255 }
+    requires arguments { arguments.height ≤ 255 }
+    ensures { result ≡ spec.call_on_tree (spec.tall from height) name arguments }
+{
+    Tall {
+        expr: Expr::CallOn(from, name, arguments.items, arguments.closing),
+        height: above(height, arguments.height),
+    }
+}
+
 fn call_on_tree(
     alloc: Global,
     from: Tall,
@@ -99,12 +119,9 @@ fn call_on_tree(
     ensures made { IfOk result (λ made. made ≡ spec.call_on_tree from name arguments) }
     ensures memory { IfErr result (λ e. e ≡ SyntaxError.OutOfMemory) }
 {
-    let height = greater(from.height, arguments.height) + 1;
+    let height = from.height;
     let from = Boxed::new(alloc, from.expr)?;
-    Ok(Tall {
-        expr: Expr::CallOn(from, name, arguments.items, arguments.closing),
-        height,
-    })
+    Ok(call_on(from, height, name, arguments))
 }
 
 fn not_tree(alloc: Global, at: Span, operand: Tall) -> Result<Tall, SyntaxError>
@@ -141,7 +158,7 @@ fn binary_tree(
     ensures made { IfOk result (λ made. made ≡ spec.binary_tree left operator at right) }
     ensures memory { IfErr result (λ e. e ≡ SyntaxError.OutOfMemory) }
 {
-    let height = greater(left.height, right.height) + 1;
+    let height = above(left.height, right.height);
     let left = Boxed::new(alloc, left.expr)?;
     let right = Boxed::new(alloc, right.expr)?;
     Ok(Tall {
@@ -450,8 +467,8 @@ pub fn expr(alloc: Global, tokens: &mut Tokens, limit: u8, least: u8) -> Result<
 
 /// An expression without an operator, with at most `limit` nodes on a path, and its height. For readers
 /// that are proved against parsers.
-pub fn post_within(alloc: Global, tokens: &mut Tokens, limit: u8) -> Result<Tall, SyntaxError>
-    ensures { Steps (spec.post_within limit) tokens.old result tokens.new }
+pub fn post_read(alloc: Global, tokens: &mut Tokens, limit: u8) -> Result<Tall, SyntaxError>
+    ensures { Steps (spec.post_read limit) tokens.old result tokens.new }
 {
     if limit == 0 {
         return Err(SyntaxError::NotSpelled);
@@ -477,9 +494,9 @@ pub(crate) fn ended_expr(alloc: Global, tokens: &mut Tokens, limit: u8) -> Resul
 
 /// The same of an expression without an operator.
 pub(crate) fn ended_post(alloc: Global, tokens: &mut Tokens, limit: u8) -> Result<Expr, SyntaxError>
-    ensures { Steps (spec.ended (spec.post_within limit)) tokens.old result tokens.new }
+    ensures { Steps (spec.ended (spec.post_read limit)) tokens.old result tokens.new }
 {
-    let read = post_within(alloc, tokens, limit)?;
+    let read = post_read(alloc, tokens, limit)?;
     if goes_on(tokens) {
         return Err(SyntaxError::NotSpelled);
     }

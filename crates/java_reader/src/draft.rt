@@ -4,15 +4,14 @@ ghost use Rattle.std.specs.Prelude.{◌≡◌};
 ghost use Rattle.java_phrases.specs.Cursor.{ahead};
 ghost use Rattle.java_reader.specs.Spelling.{TypeMember};
 ghost use Rattle.java_reader.specs.Parts.{PackageLine, ImportLine, Opening, Inner, Closing};
-ghost use Rattle.java_reader.specs.Answers.{Finds, Adds, Advances};
+ghost use Rattle.java_reader.specs.Answers.{FindsAny, Adds, Advances};
 ghost use Rattle.java_reader.specs.Drafts as spec;
 
-use desk_base::Name;
+use desk_base::{Items, Name};
 use java_heads::{Header, read_header, read_import, read_package, read_sig};
 use java_members::read_member;
 use java_phrases::{SyntaxError, Tokens};
 use java_tree::{ClassTree, FileTree, Kind, MemberTree, TypeKind};
-use sqlite_items::Items;
 use std::alloc::Global;
 
 /// The lines and the whole types, and the type whose body is open.
@@ -112,7 +111,7 @@ fn member_of(
     kind: TypeKind,
     name: &Name,
 ) -> Result<MemberTree, SyntaxError>
-    ensures { Finds (TypeMember kind name.now) (ahead tokens.old) result (ahead tokens.new) }
+    ensures { FindsAny (TypeMember kind name.now) (ahead tokens.old) result (ahead tokens.new) }
 {
     match kind {
         TypeKind::Class => read_member(alloc, tokens, name),

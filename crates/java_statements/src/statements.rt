@@ -9,10 +9,9 @@ use crate::actions::{action_within, condition};
 use crate::drops::let_go;
 use crate::head::{ForHead, for_head, sync_head, value_if};
 use crate::locals::{begins_local, declaration};
-use desk_base::Span;
+use desk_base::{Boxed, Items, Span};
 use java_phrases::{SyntaxError, Tokens};
 use java_tree::{Block, BlockItem, Expr, Kind, Stmt};
-use sqlite_items::{Boxed, Items};
 use std::alloc::Global;
 
 fn if_tree(
