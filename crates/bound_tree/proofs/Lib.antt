@@ -4,3 +4,4 @@ pub mod Backwards
 pub mod Forwards
 pub mod Claims
 pub mod Clean
+pub mod Pushing

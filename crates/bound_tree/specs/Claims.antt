@@ -1,5 +1,5 @@
 -- The monitors that stand around a place, by what names them, and when a lock is held there.
-use Rattle.std.specs.Prelude.{◌≡◌, ◌⊎◌, ℕ, ◌==◌, ◌||◌, Bool, true, false, List, [], ◌∷◌, ◌++◌, Option, Some, None, if◌then◌else◌}
+use Rattle.std.specs.Prelude.{◌≡◌, ◌⊎◌, ℕ, ◌==◌, ◌||◌, Bool, true, false, List, [], ◌∷◌, ◌++◌, Option, Some, None, get_or, if◌then◌else◌}
 use Rattle.bound_tree.specs.declared.claim.Claim.{Claim}
 use Rattle.bound_tree.specs.declared.claim.Claim.TheVariants as claim
 use Rattle.bound_tree.specs.declared.name.FieldName.{FieldName}
@@ -38,6 +38,10 @@ among x (y ∷ ys) = (x == y) || among x ys
 
 -- ---- what has a claim's form, `varies` being the locals that are assigned
 
+-- as a table by the locals' numbers says
+abbrev pub varies_in : List Bool → ℕ → Bool
+varies_in table x = get_or table x false
+
 -- of `this` or of a local that is never assigned (JLS 8, 4.12.4)
 abbrev pub local_claim : (ℕ → Bool) → Term → Option ℕ
 local_claim varies (t.This s) = Some 0
@@ -53,10 +57,13 @@ abbrev pub value_claim : Option ℕ → Option Claim
 value_claim (Some x) = Some (claim.Local x)
 value_claim None = None
 
+abbrev pub static_claim : FieldName → Option Claim
+static_claim f = if f.is_lock then Some (claim.Static f.class f.name) else None
+
 -- by what claim an expression names its object, where it has a claim's form
 abbrev pub claim_of : (ℕ → Bool) → Term → Option Claim
 claim_of varies (t.Field s b f) = field_claim f.is_lock (local_claim varies b) f
-claim_of varies (t.Static s f) = if f.is_lock then Some (claim.Static f.class f.name) else None
+claim_of varies (t.Static s f) = static_claim f
 claim_of varies e = value_claim (local_claim varies e)
 
 abbrev pub listed : Option Claim → List Claim

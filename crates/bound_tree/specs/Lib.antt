@@ -5,4 +5,5 @@ pub mod Claims
 pub mod Flows
 pub mod Runs
 pub mod Live
+pub mod Ways
 pub mod Laws

@@ -1,7 +1,6 @@
 use crate::name::{FieldName, MemberName, ValueType};
 use core_model::Op;
-use desk_base::{Bytes, Name};
-use sqlite_items::{Boxed, Items};
+use desk_base::{Boxed, Bytes, Items, Name};
 
 /// What stands with each expression: the number, within the unit, of the token that its findings
 /// name (the name of an access or a call, the word `new`), the number of its first token, and its

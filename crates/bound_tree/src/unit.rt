@@ -1,7 +1,6 @@
 use crate::name::ValueType;
 use crate::tree::Stmt;
-use desk_base::{Bytes, Name};
-use sqlite_items::Items;
+use desk_base::{Bytes, Items, Name};
 
 /// A name with the number of its token.
 #[derive(Drop)]
