@@ -5,7 +5,7 @@ use Rattle.std.proofs.lemmas.List.{append-nil}
 use Rattle.bound_tree.specs.Flows.{Flow, End, Names, Sets, Leaves, Either, Again}
 use Rattle.bound_tree.specs.Runs.{Mark, Named, Set, InTurn, Turns, Goes, Behind, reaches, Follows}
 use Rattle.bound_tree.specs.Live.{live, named_later}
-use Rattle.bound_tree.proofs.Tests.{or-left, or-right, either-more, picks, cuts, picked, and-false, false-true}
+use Rattle.bound_tree.proofs.Tests.{or-left, or-right, picks, cuts, picked, and-false, false-true}
 
 -- whether a run names the local before it sets it; behind the run that is so or not
 abbrev pub next : ℕ → List Mark → Bool → Bool

@@ -1,11 +1,11 @@
 -- The running list of claims is that of a place's ancestors.
-use Rattle.std.proofs.Common.{◌≡◌, refl, ℕ, Bool, true, false, List, [], ◌∷◌, ◌++◌, Option, Some, None, sym, ap, ◌∙◌, append_assoc}
+use Rattle.std.proofs.Common.{◌≡◌, refl, ℕ, Bool, List, [], ◌∷◌, ◌++◌, sym, ap, ◌∙◌, append_assoc}
 use Rattle.std.proofs.lemmas.List.{append-nil}
 use Rattle.bound_tree.specs.declared.claim.Claim.{Claim}
 use Rattle.bound_tree.specs.declared.claim.Claim.TheVariants as claim
 use Rattle.bound_tree.specs.Tree.{Term, Terms, Statement, Statements, stamp_of}
 use Rattle.bound_tree.specs.Tree as t
-use Rattle.bound_tree.specs.Places.{Frame, InSync, InClass, Place, Goal, Locks, here, inside, under, goes, term_places, args_places, base_places, target_read, target_written, target_goal, one_term, two_terms, places, places_all}
+use Rattle.bound_tree.specs.Places.{Frame, InSync, InClass, Place, Goal, Locks, here, inside, under, term_places, args_places, base_places, target_read, target_written, one_term, two_terms, places, places_all}
 use Rattle.bound_tree.specs.Claims.{claim_of, listed, frame_claims, claims_of, Seen, seen, all_seen, with_claims, walked, walked_all}
 
 pub seen-both : (varies : ℕ → Bool) (held : List Claim) (ps qs : List Place)

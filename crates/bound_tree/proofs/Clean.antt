@@ -1,6 +1,6 @@
 -- Clean flow is what the two passes say.
-use Rattle.std.proofs.Common.{◌≡◌, refl, ℕ, ◌==◌, Bool, true, false, ◌&&◌, ◌||◌, not, ◌⊎◌, inl, inr, List, sym, ap, ◌∙◌, eq-eqb, eqb-true}
-use Rattle.std.proofs.lemmas.Bool.{cases_Bool, and_parts, and_from, not-true}
+use Rattle.std.proofs.Common.{◌≡◌, refl, ℕ, ◌==◌, Bool, true, false, ◌&&◌, not, List, sym, ap, ◌∙◌, eq-eqb, eqb-true}
+use Rattle.std.proofs.lemmas.Bool.{and_parts, and_from}
 use Rattle.bound_tree.specs.Tree.{Terms}
 use Rattle.bound_tree.specs.Flows.{Flow}
 use Rattle.bound_tree.specs.Runs.{Mark, Goes, Follows, CleanFlow, namings_in, reaches}

@@ -5,7 +5,7 @@ use Rattle.bound_tree.specs.Flows.{Flow, End, Names, Sets, Leaves, Either, Again
 use Rattle.bound_tree.specs.Runs.{Mark, Named, Set, InTurn, Turns, Goes, Behind, reaches, Follows}
 use Rattle.bound_tree.specs.Live.{spent_by, spent, spent_before}
 use Rattle.bound_tree.proofs.Tests.{or-left, or-right, false-true}
-use Rattle.bound_tree.proofs.Backwards.{some-run, one-turn, join}
+use Rattle.bound_tree.proofs.Backwards.{some-run, one-turn}
 
 -- a run sets the local nowhere
 abbrev pub free : ℕ → List Mark → Bool

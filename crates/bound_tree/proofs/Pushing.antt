@@ -11,7 +11,6 @@ pub onto-last : (ws : List Way) (v : Way) (k : Flow) → flow_from (ws ++ v ∷ 
 onto-last [] v k = refl
 onto-last (x ∷ ws) v k = onto-last ws v (way_of x k)
 
-
 pub way_of-Names : (x p : ℕ) (k : Flow) → way_of (w.Names x p) k ≡ Names x p k
 unfolding way_of
 way_of-Names x p k = ap (λ (v : Way). way_of v k) (sym (w.rolls-Names x p)) ∙ ap (λ (g : Flow → Flow). g k) (fold-roll-Way (Flow → Flow) way_layer (Way-F.Names x p))
@@ -35,4 +34,3 @@ way_of-Again a k = ap (λ (v : Way). way_of v k) (sym (w.rolls-Again a)) ∙ ap 
 -- what a push leaves
 pub pushed : (new ws : List Way) (v : Way) → new ≡ ws ++ v ∷ [] → whole new ≡ way_of v (whole ws)
 pushed new ws v e = ap whole e ∙ onto-last ws v End
-

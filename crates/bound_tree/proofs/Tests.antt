@@ -9,10 +9,6 @@ pub or-right : (a b : Bool) → b ≡ true → (a || b) ≡ true
 or-right true b e = refl
 or-right false b e = e
 
-pub either-more : (a b c d : Bool) → (a ≡ true → c ≡ true) → (b ≡ true → d ≡ true) → (a || b) ≡ true → (c || d) ≡ true
-either-more true b c d f g e = or-left c d (f refl)
-either-more false b c d f g e = or-right c d (g e)
-
 pub picks : (b j k : Bool) → (j ≡ true → k ≡ true) → (if b then true else j) ≡ true → (if b then true else k) ≡ true
 picks true j k h e = refl
 picks false j k h e = h e

@@ -5,7 +5,7 @@ use Rattle.bound_tree.specs.declared.claim.Claim.TheVariants as claim
 use Rattle.bound_tree.specs.declared.name.FieldName.{FieldName}
 use Rattle.bound_tree.specs.Tree.{Term, Terms, Statement, Statements}
 use Rattle.bound_tree.specs.Tree as t
-use Rattle.bound_tree.specs.Places.{Frame, InSync, InClass, InMember, What, Locks, Flows, Starts, ToLocal, ToThread, ToResult, Place, here, goes, under, term_places, base_places, target_read, target_written, target_goal, one_term, two_terms, places}
+use Rattle.bound_tree.specs.Places.{Frame, InSync, InClass, InMember, What, Locks, Place, here, term_places, one_term, places}
 
 -- ---- which locals are assigned after their declaration
 
@@ -35,6 +35,9 @@ abbrev mutual
 abbrev pub among : ℕ → List ℕ → Bool
 among x [] = false
 among x (y ∷ ys) = (x == y) || among x ys
+
+abbrev pub varies_of : Statement → ℕ → Bool
+varies_of s x = among x (assigned s)
 
 -- ---- what has a claim's form, `varies` being the locals that are assigned
 

@@ -63,11 +63,7 @@ fn field_claim(base: Option<u32>, field: &FieldName) -> Result<Option<Claim>, Ou
         return Ok(None);
     }
     match base {
-        Some(local) => Ok(Some(Claim::Field(
-            local,
-            field.class.clone()?,
-            field.name.clone()?,
-        ))),
+        Some(local) => Ok(Some(Claim::Field(local, field.class.clone()?, field.name.clone()?))),
         None => Ok(None),
     }
 }
@@ -78,10 +74,7 @@ fn static_claim(field: &FieldName) -> Result<Option<Claim>, OutOfMemory>
     if !field.is_lock {
         return Ok(None);
     }
-    Ok(Some(Claim::Static(
-        field.class.clone()?,
-        field.name.clone()?,
-    )))
+    Ok(Some(Claim::Static(field.class.clone()?, field.name.clone()?)))
 }
 
 fn value_claim(local: Option<u32>) -> Option<Claim>

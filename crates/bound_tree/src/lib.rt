@@ -13,9 +13,9 @@ mod unit;
 mod way;
 
 pub use claim::{Claim, claim_of};
-pub use flow::put_expr;
+pub use flow::{put_expr, put_stmt};
 pub use laws::{claims_run_along, passes_tell_runs};
 pub use name::{FieldName, MemberName, ValueType};
 pub use tree::{Expr, Literal, Stamp, Stmt, UnaryOp};
 pub use unit::{Body, BoundTree, Initial, Part, Variable, Word};
-pub use way::Way;
+pub use way::{Way, no_ways};

@@ -28,7 +28,8 @@ pub enum Initial {
 }
 
 /// The parts of a unit that has code. A constructor's name is `new`. In a unit that isn't static
-/// `this` is local 0; the parameters follow.
+/// `this` is local 0; the parameters follow. The parameter of a main is local 0 and isn't listed,
+/// since no name of its body names it.
 #[derive(Drop)]
 pub struct Body {
     pub name: Name,

@@ -3,6 +3,7 @@ ghost use Rattle.bound_tree.specs.Flows as steps;
 ghost use Rattle.bound_tree.specs.Ways.{whole};
 
 use desk_base::{Items, OutOfMemory};
+use std::alloc::Global;
 
 /// What a part of a unit does to locals: it names a local at a token, sets one, leaves the call,
 /// goes one of two ways, or the same way any number of times. In a list of ways the last comes
@@ -14,6 +15,13 @@ pub enum Way {
     Leaves,
     Either(Items<Way>, Items<Way>),
     Again(Items<Way>),
+}
+
+/// A flow in which nothing is done.
+pub fn no_ways(alloc: Global) -> Items<Way>
+    ensures { whole result ≡ steps.End }
+{
+    Items::new(alloc)
 }
 
 /// Puts the naming of a local at a token before the flow.
@@ -41,7 +49,11 @@ pub fn put_leaving(flow: &mut Items<Way>) -> Result<(), OutOfMemory>
 }
 
 /// Puts one of two parts before the flow.
-pub fn put_either(flow: &mut Items<Way>, one: Items<Way>, other: Items<Way>) -> Result<(), OutOfMemory>
+pub fn put_either(
+    flow: &mut Items<Way>,
+    one: Items<Way>,
+    other: Items<Way>,
+) -> Result<(), OutOfMemory>
     ensures { OnOk result (whole flow.new ≡ steps.Either (whole one) (whole other) (whole flow.old)) }
 {
     flow.push(Way::Either(one, other))?;
