@@ -76,7 +76,11 @@ fn put_outline(out: &mut String, file: &FileTree) -> Result<()> {
 }
 
 fn put_form(alloc: Global, out: &mut String, file: &FileTree) -> Result<()> {
-    out.push_str(if is_first_form(alloc, file)? { "yes" } else { "no" })?;
+    out.push_str(if is_first_form(alloc, file)? {
+        "yes"
+    } else {
+        "no"
+    })?;
     Ok(())
 }
 

@@ -142,7 +142,11 @@ fn holds(alloc: Global, tree: &RegionTree, question: &str) -> Result<bool> {
 
 fn put_question(alloc: Global, out: &mut String, written: &str, question: &str) -> Result<()> {
     let tree = tree_of(alloc, written)??;
-    out.push_str(if holds(alloc, &tree, question)? { "yes" } else { "no" })?;
+    out.push_str(if holds(alloc, &tree, question)? {
+        "yes"
+    } else {
+        "no"
+    })?;
     Ok(())
 }
 
@@ -157,7 +161,11 @@ fn put_added(
     ensures { AreOf (parents_in tree.now) apart.new }
 {
     let region = tree.region(&name_of(alloc, name)?).context("no region")?;
-    let word = if apart.add(tree, region) { "added" } else { "not" };
+    let word = if apart.add(tree, region) {
+        "added"
+    } else {
+        "not"
+    };
     out.push_str(if out.is_empty() { "" } else { "; " })?;
     write!(out, "{name} {word}")?;
     Ok(())
