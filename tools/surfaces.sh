@@ -15,7 +15,7 @@ top=$(CDPATH= cd -- "$(dirname -- "$0")/.." && pwd) || exit 2
 # Copies of the cases, with the line in front of each Java file.
 copy_cases() {
     for file in "$1"/*; do
-        name=$(basename -- "$file")
+        name=${file##*/}
         case $name in
         *.stdout) cp -- "$file" "$work/$name" || return 1 ;;
         *) { echo surfaces && cat -- "$file"; } >"$work/$name" || return 1 ;;

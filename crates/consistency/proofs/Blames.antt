@@ -47,6 +47,7 @@ tells_link given ps ws fs left run k le = record { passes = λ l x r t. passes l
     passes (Word w) (link.Promise key) r t = absurd r
     passes (Word w) (link.Vouched key) r t = t
     passes (Word w) (link.Assumed class promise) r t = t
+
     fails : (l : Link) (x : FindingLink) → LinkOf ps ws l x → stays left given k l ≡ false → Holds given (Round ps fs given k) x → ⊥
     fails (Promise q) (link.Promise key) r t h = run.gone q k key r le t h
     fails (Promise q) (link.Vouched key) r t h = r
@@ -86,6 +87,7 @@ none_fails t (x ∷ xs) h = let w = or_fails (not (t x)) (list_any (λ y. not (t
     or_fails : (a b : Bool) → (a || b) ≡ false → (a ≡ false) × (b ≡ false)
     or_fails true b h = absurd cc
     or_fails false b h = (refl, h)
+
     and_true : (a b : Bool) → a ≡ true → b ≡ true → (a && b) ≡ true
     and_true true b e h = h
     and_true false b e h = absurd cc
@@ -110,6 +112,7 @@ leaves_of given ps fs left run p k key at is =
   where
     lt_true : (a b : ℕ) → a < b → nat_lt a b ≡ true
     lt_true a b h = grind (arith, nat_tests)
+
     lt_false : (a b : ℕ) → b ≤ a → nat_lt a b ≡ false
     lt_false a b h = grind (arith, nat_tests)
 
@@ -139,13 +142,13 @@ survives_of : (given : Bool) (ps : List PromiseKey) (ws : List FindingLink) (fs 
     → (k : ℕ) → k ≤ length ps → (c : Clause) (x : Finding) → ClauseOf ps ws c x → is_lost left given k c ≡ false → Survives given (Round ps fs given k) x
 survives_of given ps ws fs left run k le c x r h =
     any_true (WayOf ps ws) (λ (ls : Vec Link Global). stays_all left given k ls.items) (All (Holds given (Round ps fs given k)))
-        (tells_way given ps ws fs left run k le) c.alternatives.items x.alternatives r.ways (not_false _ h)
+    (tells_way given ps ws fs left run k le) c.alternatives.items x.alternatives r.ways (not_false _ h)
 
 lost_not : (given : Bool) (ps : List PromiseKey) (ws : List FindingLink) (fs : List Finding) (left : List (Option ℕ)) → RunOf ps fs given left
     → (k : ℕ) → k ≤ length ps → (c : Clause) (x : Finding) → ClauseOf ps ws c x → is_lost left given k c ≡ true → Survives given (Round ps fs given k) x → ⊥
 lost_not given ps ws fs left run k le c x r h s =
     any_false (WayOf ps ws) (λ (ls : Vec Link Global). stays_all left given k ls.items) (All (Holds given (Round ps fs given k)))
-        (tells_way given ps ws fs left run k le) c.alternatives.items x.alternatives r.ways (not_true _ h) s.0 s.1 s.2
+    (tells_way given ps ws fs left run k le) c.alternatives.items x.alternatives r.ways (not_true _ h) s.0 s.1 s.2
 
 -- the first lost finding, by number and by rule
 pub record LostAt (given : Bool) (ps : List PromiseKey) (ws : List FindingLink) (cs : List Clause) (fs : List Finding) (left causes : List (Option ℕ)) (p k : ℕ) (key : PromiseKey) : Type 0 where
@@ -172,15 +175,18 @@ lost_at given ps ws cs fs left causes s run known p k key at is None none =
     let le : k ≤ length ps = omega arith in
     let all = subst (λ (o : Option ℕ). CauseTo cs left given (length cs) p o) none (known p (some_within left p (suc k) is)) in
     let leaves = leaves_of given ps fs left run p k key at is in
-    absurd (leaves.1 (get_contains ps p key at, λ x has on.
-        let c = zip_right (ClauseOf ps ws) cs fs s.clauses x has in
-        let r = c.2 in
-        let same : c.0.on ≡ p = s.distinct c.0.on p key (r.on ∙ ap (λ (z : PromiseKey). Some z) on) at in
-        let place = c.1 in
-        let read : get_or cs place.0 c.0 ≡ c.0 = place.2 in
-        let kept = all place.0 c.0 place.1 (ap (λ (z : Clause). z.on) read ∙ same) in
-        let kept2 : lost_of left given c.0 ≡ false = sym (ap (λ (z : Clause). lost_of left given z) read) ∙ kept in
-        survives_of given ps ws fs left run k le c.0 x r (sym (lost_is cs left given p k c.0 same is) ∙ kept2)))
+    absurd (leaves.1 (
+      get_contains ps p key at,
+      λ x has on.
+          let c = zip_right (ClauseOf ps ws) cs fs s.clauses x has in
+          let r = c.2 in
+          let same : c.0.on ≡ p = s.distinct c.0.on p key (r.on ∙ ap (λ (z : PromiseKey). Some z) on) at in
+          let place = c.1 in
+          let read : get_or cs place.0 c.0 ≡ c.0 = place.2 in
+          let kept = all place.0 c.0 place.1 (ap (λ (z : Clause). z.on) read ∙ same) in
+          let kept2 : lost_of left given c.0 ≡ false = sym (ap (λ (z : Clause). lost_of left given z) read) ∙ kept in
+          survives_of given ps ws fs left run k le c.0 x r (sym (lost_is cs left given p k c.0 same is) ∙ kept2),
+    ))
 lost_at given ps ws cs fs left causes s run known p k key at is (Some f) some =
     let within = run.within p (suc k) is in let top = within.1 in
     let le : k ≤ length ps = omega arith in
@@ -207,11 +213,11 @@ lost_at given ps ws cs fs left causes s run known p k key at is (Some f) some =
       first = first_at (λ (y : Finding). (y.key.on ≡ key) × (Survives given (Round ps fs given k) y → ⊥)) fs f x lx (get_or_default fs f x e.0 lx)
           (is_on, lost_not given ps ws fs left run k le c x r lost)
           (λ j lj y.
-              let lc : j < length cs = omega (arith, lj, lf) in
-              let rj : ClauseOf ps ws (get_or cs j d) (get_or fs j x) = zip_at (ClauseOf ps ws) cs fs s.clauses j d x lc in
-              let onj : (get_or cs j d).on ≡ p = s.distinct (get_or cs j d).on p key (rj.on ∙ ap (λ (z : PromiseKey). Some z) y.0) at in
-              let keptj = all.2 j d lj onj in
-              y.1 (survives_of given ps ws fs left run k le (get_or cs j d) (get_or fs j x) rj (sym (lost_is cs left given p k (get_or cs j d) onj is) ∙ keptj)));
+          let lc : j < length cs = omega (arith, lj, lf) in
+          let rj : ClauseOf ps ws (get_or cs j d) (get_or fs j x) = zip_at (ClauseOf ps ws) cs fs s.clauses j d x lc in
+          let onj : (get_or cs j d).on ≡ p = s.distinct (get_or cs j d).on p key (rj.on ∙ ap (λ (z : PromiseKey). Some z) y.0) at in
+          let keptj = all.2 j d lj onj in
+          y.1 (survives_of given ps ws fs left run k le (get_or cs j d) (get_or fs j x) rj (sym (lost_is cs left given p k (get_or cs j d) onj is) ∙ keptj)));
     }
 
 -- the promise of a missing link left by round k
@@ -239,7 +245,7 @@ pub record BlameStep (ps : List PromiseKey) (fs : List Finding) (cs : List Claus
   pub first : FirstLost ps fs true k key finding
   pub next : ((f : ℕ) × (step ≡ Some (Own f)) × (key_at cs (Some f) ≡ Some finding.key) × (finding.alternatives ≡ []))
       ⊎ ((q : ℕ) × (other : PromiseKey) × (way : List FindingLink) × (ways : List (List FindingLink)) × (step ≡ Some (Via q)) × (slice_get ps q ≡ Some other)
-        × (finding.alternatives ≡ way ∷ ways) × FirstMissing ps fs true k way (link.Promise other) × ((s : ℕ) × (get_or left q None ≡ Some s) × (s ≤ k)))
+      × (finding.alternatives ≡ way ∷ ways) × FirstMissing ps fs true k way (link.Promise other) × ((s : ℕ) × (get_or left q None ≡ Some s) × (s ≤ k)))
 
 blame_next : (ps : List PromiseKey) (ws : List FindingLink) (cs : List Clause) (fs : List Finding) (left : List (Option ℕ)) → RunOf ps fs true left
     → (p k : ℕ) (key : PromiseKey) → k ≤ length ps → (f : ℕ) (c : Clause) (x : Finding) → slice_get cs f ≡ Some c → c.key ≡ x.key → Contains fs x → FirstLost ps fs true k key x
@@ -256,26 +262,41 @@ blame_next ps ws cs fs left run p k key le f c x at same there first (ls ∷ lss
   where
     lost : Survives true (Round ps fs true k) x → ⊥
     lost = let w = first_has (λ (y : Finding). (y.key.on ≡ key) × (Survives true (Round ps fs true k) y → ⊥)) fs x first in w.1.1
+
     way_in : Contains x.alternatives way
     way_in = subst (λ (z : List (List FindingLink)). Contains z way) (sym alts) (zero, omega arith, refl)
+
     target : (q : ℕ) (y : FindingLink) → LinkOf ps ws (Promise q) y → First (λ (l : FindingLink). Holds true (Round ps fs true k) l → ⊥) way y
         → BlameStep ps fs cs left p k key (Some (Via q))
     target q (link.Promise other) r h = record {
       finding = x;
       there = there;
       first = first;
-      next = inr (q, other, way, ways, refl, r, alts, h, left_by true ps fs left run q k other r le
-          (let w = first_has (λ (l : FindingLink). Holds true (Round ps fs true k) l → ⊥) way (link.Promise other) h in w.1) (get_or left q None) refl);
+      next = inr (
+        q,
+        other,
+        way,
+        ways,
+        refl,
+        r,
+        alts,
+        h,
+        left_by true ps fs left run q k other r le
+            (let w = first_has (λ (l : FindingLink). Holds true (Round ps fs true k) l → ⊥) way (link.Promise other) h in w.1) (get_or left q None) refl,
+      );
     }
     target q (link.Vouched v) r h = absurd r
     target q (link.Assumed a b) r h = absurd r
+
     word : (w : ℕ) (y : FindingLink) → LinkOf ps ws (Word w) y → First (λ (l : FindingLink). Holds true (Round ps fs true k) l → ⊥) way y → ⊥
     word w (link.Promise other) r h = r
     word w (link.Vouched v) r h = let u = first_has (λ (l : FindingLink). Holds true (Round ps fs true k) l → ⊥) way (link.Vouched v) h in u.1 refl
     word w (link.Assumed a b) r h = let u = first_has (λ (l : FindingLink). Holds true (Round ps fs true k) l → ⊥) way (link.Assumed a b) h in u.1 refl
+
     found : (l : Link) → missing left true k ls.items ≡ Some l → (y : FindingLink) × LinkOf ps ws l y × First (λ (l : FindingLink). Holds true (Round ps fs true k) l → ⊥) way y
     found l is = first_found (LinkOf ps ws) (λ l. not (stays left true k l)) (λ (l : FindingLink). Holds true (Round ps fs true k) l → ⊥)
         (tells_missing true ps ws fs left run k le) ls.items way z.0 l is
+
     go : (o : Option Link) → missing left true k ls.items ≡ o → BlameStep ps fs cs left p k key (step_by o)
     go None is = absurd (lost (way, way_in, missing_none true ps ws fs left run k le ls way z.0 is))
     go (Some (Promise q)) is = let w = found (Promise q) is in target q w.0 w.1 w.2
@@ -289,13 +310,13 @@ blame_step ps ws cs fs left causes steps s run known are p k key at is =
     let l = lost_at true ps ws cs fs left causes s run known p k key at is (get_or causes p None) refl in
     let r = l.pair in
     let step : get_or steps p None ≡ blame_in left l.cause k l.clause.alternatives.items =
-        are p (some_within left p (suc k) is)
-        ∙ ap (λ (o : Option ℕ). blame_by cs left o (get_or causes p None)) is
-        ∙ ap (λ (o : Option ℕ). blame_by cs left (Some (suc k)) o) l.is_cause
-        ∙ ap (λ (o : Option Clause). blame_at left l.cause (suc k - 1) o) l.is_clause
-        ∙ ap (λ (z : ℕ). blame_in left l.cause z l.clause.alternatives.items) (down k) in
+    are p (some_within left p (suc k) is)
+    ∙ ap (λ (o : Option ℕ). blame_by cs left o (get_or causes p None)) is
+    ∙ ap (λ (o : Option ℕ). blame_by cs left (Some (suc k)) o) l.is_cause
+    ∙ ap (λ (o : Option Clause). blame_at left l.cause (suc k - 1) o) l.is_clause
+    ∙ ap (λ (z : ℕ). blame_in left l.cause z l.clause.alternatives.items) (down k) in
     subst (λ (o : Option Step). BlameStep ps fs cs left p k key o) (sym step)
-        (blame_next ps ws cs fs left run p k key (omega arith) l.cause l.clause l.finding l.is_clause r.key l.there l.first l.clause.alternatives.items l.finding.alternatives r.ways refl)
+    (blame_next ps ws cs fs left run p k key (omega arith) l.cause l.clause l.finding l.is_clause r.key l.there l.first l.clause.alternatives.items l.finding.alternatives r.ways refl)
 
 -- what is answered of an inconsistent promise
 pub record Blamed (ps : List PromiseKey) (fs : List Finding) (cs : List Clause) (key : PromiseKey) (o : Option ℕ) : Type 0 where
@@ -350,6 +371,7 @@ blame_falls ps ws cs fs left causes steps s run known are p q lt via = go (get_o
     key_of_place [] i lt = absurd (omega arith)
     key_of_place (x ∷ xs) zero lt = (x, refl)
     key_of_place (x ∷ xs) (suc i) lt = key_of_place xs i (omega arith)
+
     go : (o : Option ℕ) → get_or left p None ≡ o → (r : ℕ) × (t : ℕ) × (get_or left p None ≡ Some r) × (get_or left q None ≡ Some t) × (t < r)
     go None is = absurd (let step = are p lt ∙ ap (λ (o : Option ℕ). blame_by cs left o (get_or causes p None)) is in let both = sym via ∙ step in cc)
     go (Some zero) is = absurd (let w = run.within p zero is in let l = w.0 in omega arith)

@@ -80,26 +80,26 @@ ends_more left steps order i p ends v li is size o falls ve e =
     let lp : p < length ends = (let l = inn.0 in omega (arith, l, size)) in
     let same = get_or-set_same ends p v None lp in
     let early = λ (q : ℕ) (h : get_or steps p None ≡ Some (Via q)). (let f = falls p q inn.0 h in
-        let c = o.sorted i q f.0 f.1 li (subst (λ (z : ℕ). get_or left z None ≡ Some f.0) is f.2) f.3 f.4 in let z : Contains (take i order) q = c in z) in
+    let c = o.sorted i q f.0 f.1 li (subst (λ (z : ℕ). get_or left z None ≡ Some f.0) is f.2) f.3 f.4 in let z : Contains (take i order) q = c in z) in
     let apart = λ (q : ℕ) (h : get_or steps p None ≡ Some (Via q)) (e2 : q ≡ p). (let f = falls p q inn.0 h in
-        let a = f.2 in let b = subst (λ (z : ℕ). get_or left z None ≡ Some f.1) e2 f.3 in let lt = f.4 in
-        let both : f.0 ≡ f.1 = number_same f.0 f.1 (sym a ∙ b) in let z : ⊥ = omega (arith, both, lt) in z) in
+    let a = f.2 in let b = subst (λ (z : ℕ). get_or left z None ≡ Some f.1) e2 f.3 in let lt = f.4 in
+    let both : f.0 ≡ f.1 = number_same f.0 f.1 (sym a ∙ b) in let z : ⊥ = omega (arith, both, lt) in z) in
     record {
       each = λ p2 c. elim (same_or_not p2 p) [
         | inl here ↦ (
             let now : get_or (set ends p v) p2 None ≡ v = subst (λ (z : ℕ). get_or (set ends p v) z None ≡ v) (sym here) same in
             let step : end_by (set ends p v) (get_or steps p2 None) ≡ end_by ends (get_or steps p2 None) =
-                end_same (set ends p v) ends (get_or steps p2 None) (λ q h. get_or-set_other ends p q v None (apart q (subst (λ (z : ℕ). get_or steps z None ≡ Some (Via q)) here h))) in
+            end_same (set ends p v) ends (get_or steps p2 None) (λ q h. get_or-set_other ends p q v None (apart q (subst (λ (z : ℕ). get_or steps z None ≡ Some (Via q)) here h))) in
             now ∙ ve ∙ ap (λ (z : ℕ). end_by ends (get_or steps z None)) (sym here) ∙ sym step)
         | inr other ↦ elim (cases order i 0 p2 li c) [
           | inr at ↦ absurd (other (sym at ∙ sym is))
           | inl old ↦ (
               let step : end_by (set ends p v) (get_or steps p2 None) ≡ end_by ends (get_or steps p2 None) =
-                  end_same (set ends p v) ends (get_or steps p2 None) (λ q h. elim (same_or_not q p) [
-                    | inl qp ↦ (let known = e.each p (subst (λ (z : ℕ). Contains (take i order) z) qp (e.among p2 q old h)) in
-                        subst (λ (z : ℕ). get_or (set ends p v) z None ≡ get_or ends z None) (sym qp) (same ∙ ve ∙ sym known))
-                    | inr qo ↦ get_or-set_other ends p q v None qo
-                  ]) in
+              end_same (set ends p v) ends (get_or steps p2 None) (λ q h. elim (same_or_not q p) [
+                | inl qp ↦ (let known = e.each p (subst (λ (z : ℕ). Contains (take i order) z) qp (e.among p2 q old h)) in
+                    subst (λ (z : ℕ). get_or (set ends p v) z None ≡ get_or ends z None) (sym qp) (same ∙ ve ∙ sym known))
+                | inr qo ↦ get_or-set_other ends p q v None qo
+              ]) in
               get_or-set_other ends p p2 v None other ∙ e.each p2 old ∙ sym step)
         ]
       ];

@@ -129,10 +129,12 @@ same_kept given old new f n ls p bs ts m ws lt s =
       from = λ q c.
           let w = s.from q c in
           let g = links_grow given old new f n ls p in
-          let below = w.1 in
-          (w.0, omega (arith, g, below),
-          read_left new.alternative.items old.alternative.items (map (λ q. n) (targets ls)) 0 w.0 p.alternative below ∙ w.2,
-          read_left new.target.items old.target.items (targets ls) 0 w.0 p.target (omega (arith, ts, below)) ∙ w.3);
+          let below = w.1 in (
+            w.0,
+            omega (arith, g, below),
+            read_left new.alternative.items old.alternative.items (map (λ q. n) (targets ls)) 0 w.0 p.alternative below ∙ w.2,
+            read_left new.target.items old.target.items (targets ls) 0 w.0 p.target (omega (arith, ts, below)) ∙ w.3,
+          );
     }
 
 same_put : (given : Bool) (old new : Flat) (f n : ℕ) (ls : List Link) → Put given old new f n ls
@@ -159,9 +161,12 @@ same_put given old new f n ls p bs ts inn =
           let l = length old.alternative.items + w.0 in
           let lt = w.1 in
           let ll : l < length new.alternative.items = omega (arith, g, lt) in
-          let back : l - length old.target.items ≡ w.0 = omega (arith, ts) in
-          (l, ll, new_alternative given old new f n ls p l (omega arith) ll,
-          read_right new.target.items old.target.items (targets ls) 0 l p.target (omega (arith, ts)) ∙ ap (λ (z : ℕ). get_or (targets ls) z 0) back ∙ w.2);
+          let back : l - length old.target.items ≡ w.0 = omega (arith, ts) in (
+            l,
+            ll,
+            new_alternative given old new f n ls p l (omega arith) ll,
+            read_right new.target.items old.target.items (targets ls) 0 l p.target (omega (arith, ts)) ∙ ap (λ (z : ℕ). get_or (targets ls) z 0) back ∙ w.2,
+          );
     }
 
 has_more : (given : Bool) (old new : Flat) (f n : ℕ) (ls : List Link) (ways : List Way) → Put given old new f n ls → n ≡ length old.finding.items
@@ -239,7 +244,7 @@ pub ways_more : (given : Bool) (old mid new : Flat) (f i : ℕ) (alternatives : 
 ways_more given old mid new f i alternatives ls lt is x y =
     let more : take (i + 1) alternatives ≡ take i alternatives ++ ls ∷ [] = take_more alternatives i ls lt ∙ ap (λ (z : Vec Link Global). take i alternatives ++ z ∷ []) (sym is) in
     let whole : ways_of f (take (i + 1) alternatives) ≡ ways_of f (take i alternatives) ++ (f, ls.items) ∷ [] =
-        ap (λ (z : List (Vec Link Global)). ways_of f z) more ∙ ways-append f (take i alternatives) ls in
+    ap (λ (z : List (Vec Link Global)). ways_of f z) more ∙ ways-append f (take i alternatives) ls in
     subst (λ (z : List Way). AddsWays given old new z) (sym whole) (ways_then given old mid new (ways_of f (take i alternatives)) ((f, ls.items) ∷ []) x y)
 
 -- ---- the findings so far
@@ -283,8 +288,9 @@ flat_more given cs i f c old mid new lt at is keep flat adds = (
       | inr put ↦ (
           let b = way_from f c.alternatives.items w put.0 put.1 put.2 in
           let place = b.0 in (
-          omega arith,
-          λ d. (b.1.0, subst (λ (z : Clause). Contains z.alternatives.items b.1.0) (sym (read_of cs i w.0 d c lt (place ∙ is) at)) b.1.1, b.1.2)))
+            omega arith,
+            λ d. (b.1.0, subst (λ (z : Clause). Contains z.alternatives.items b.1.0) (sym (read_of cs i w.0 d c lt (place ∙ is) at)) b.1.1, b.1.2),
+          ))
     ];
   },
 ) where
@@ -332,17 +338,22 @@ numbered_of given cs g ons flat =
       there = λ i d lt a has.
           let c = flat.2.there i d a lt has in
           let m = c.0 in
-          let lm = c.1 in
-          (m, omega (arith, size, lm), h.finding m (i, a.items) lm ∙ ap (λ (w : Way). w.0) c.2,
-          subst (λ (w : Way). SameLinks given g m w.1) c.2 (h.same m (i, a.items) lm));
+          let lm = c.1 in (
+            m,
+            omega (arith, size, lm),
+            h.finding m (i, a.items) lm ∙ ap (λ (w : Way). w.0) c.2,
+            subst (λ (w : Way). SameLinks given g m w.1) c.2 (h.same m (i, a.items) lm),
+          );
       back = λ m d lt.
           let lm : m < length ways = omega (arith, size, lt) in
           let w = get_or ways m none_way in
           let b = flat.2.back w (Contains-get_or ways m none_way lm) in
           let a = b.1 d in
-          let f : finding_of g m ≡ w.0 = h.finding m none_way lm in
-          (a.0, subst (λ (z : ℕ). Contains (get_or cs z d).alternatives.items a.0) (sym f) a.1,
-          subst (λ (z : List Link). SameLinks given g m z) a.2 (h.same m none_way lm));
+          let f : finding_of g m ≡ w.0 = h.finding m none_way lm in (
+            a.0,
+            subst (λ (z : ℕ). Contains (get_or cs z d).alternatives.items a.0) (sym f) a.1,
+            subst (λ (z : List Link). SameLinks given g m z) a.2 (h.same m none_way lm),
+          );
     }
 
 first_of_all : (cs : List Clause) (n : ℕ) → n < length cs → Clause

@@ -81,14 +81,20 @@ pub record Stands (ps : List PromiseKey) (ws : List FindingLink) (cs : List Clau
 pub in_round : (given : Bool) (ps : List PromiseKey) (ws : List FindingLink) (cs : List Clause) (fs : List Finding) → Stands ps ws cs fs
     → (k p : ℕ) (key : PromiseKey) → slice_get ps p ≡ Some key → In given cs k p → Round ps fs given k key
 in_round given ps ws cs fs s zero p key at h = get_contains ps p key at
-in_round given ps ws cs fs s (suc k) p key at h = (get_contains ps p key at, λ x has on.
-    let c = zip_right (ClauseOf ps ws) cs fs s.clauses x has in
-    let r = c.2 in
-    let same : c.0.on ≡ p = s.distinct c.0.on p key (r.on ∙ ap (λ (z : PromiseKey). Some z) on) at in
-    let a = h c.0 c.1 same in
-    let w = zip_left (WayOf ps ws) c.0.alternatives.items x.alternatives r.ways a.0 a.1 in
-    (w.0, w.1, zip_all (LinkOf ps ws) (numbers.Holds given (In given cs k)) (Holds given (Round ps fs given k))
-        (link_up given ps ws (In given cs k) (Round ps fs given k) (λ q key2 at2 i. in_round given ps ws cs fs s k q key2 at2 i)) a.0.items w.0 w.2 a.2))
+in_round given ps ws cs fs s (suc k) p key at h = (
+  get_contains ps p key at,
+  λ x has on.
+      let c = zip_right (ClauseOf ps ws) cs fs s.clauses x has in
+      let r = c.2 in
+      let same : c.0.on ≡ p = s.distinct c.0.on p key (r.on ∙ ap (λ (z : PromiseKey). Some z) on) at in
+      let a = h c.0 c.1 same in
+      let w = zip_left (WayOf ps ws) c.0.alternatives.items x.alternatives r.ways a.0 a.1 in (
+        w.0,
+        w.1,
+        zip_all (LinkOf ps ws) (numbers.Holds given (In given cs k)) (Holds given (Round ps fs given k))
+            (link_up given ps ws (In given cs k) (Round ps fs given k) (λ q key2 at2 i. in_round given ps ws cs fs s k q key2 at2 i)) a.0.items w.0 w.2 a.2,
+      ),
+)
 
 pub round_in : (given : Bool) (ps : List PromiseKey) (ws : List FindingLink) (cs : List Clause) (fs : List Finding) → Stands ps ws cs fs
     → (k p : ℕ) (key : PromiseKey) → slice_get ps p ≡ Some key → Round ps fs given k key → In given cs k p
@@ -98,18 +104,24 @@ round_in given ps ws cs fs s (suc k) p key at h = λ c has on.
     let r = x.2 in
     let same : x.0.key.on ≡ key = some_same x.0.key.on key (sym r.on ∙ ap (λ (z : ℕ). slice_get ps z) on ∙ at) in
     let w = h.1 x.0 x.1 same in
-    let a = zip_right (WayOf ps ws) c.alternatives.items x.0.alternatives r.ways w.0 w.1 in
-    (a.0, a.1, zip_back (LinkOf ps ws) (numbers.Holds given (In given cs k)) (Holds given (Round ps fs given k))
-        (link_down given ps ws (In given cs k) (Round ps fs given k) (λ q key2 at2 i. round_in given ps ws cs fs s k q key2 at2 i)) a.0.items w.0 a.2 w.2)
+    let a = zip_right (WayOf ps ws) c.alternatives.items x.0.alternatives r.ways w.0 w.1 in (
+      a.0,
+      a.1,
+      zip_back (LinkOf ps ws) (numbers.Holds given (In given cs k)) (Holds given (Round ps fs given k))
+          (link_down given ps ws (In given cs k) (Round ps fs given k) (λ q key2 at2 i. round_in given ps ws cs fs s k q key2 at2 i)) a.0.items w.0 a.2 w.2,
+    )
 
 -- ---- what a run over numbers says
 
 greatest_at : (given : Bool) (ps : List PromiseKey) (fs : List Finding) (S : PromiseKey → Bool) → IsConsistent ps fs given (λ p. S p ≡ true)
     → (k : ℕ) (p : PromiseKey) → S p ≡ true → Round ps fs given k p
 greatest_at given ps fs S h zero p is = (h p is).0
-greatest_at given ps fs S h (suc k) p is = ((h p is).0, λ x has on.
-    let w = (h p is).1 x has on in
-    (w.0, w.1, λ j d lt. up given (λ q. S q ≡ true) (Round ps fs given k) (λ q e. greatest_at given ps fs S h k q e) (get_or w.0 j d) (w.2 j d lt)))
+greatest_at given ps fs S h (suc k) p is = (
+  (h p is).0,
+  λ x has on.
+      let w = (h p is).1 x has on in
+      (w.0, w.1, λ j d lt. up given (λ q. S q ≡ true) (Round ps fs given k) (λ q e. greatest_at given ps fs S h k q e) (get_or w.0 j d) (w.2 j d lt)),
+)
   where
     up : (given : Bool) (A B : PromiseKey → Type 0) → ((q : PromiseKey) → A q → B q) → (l : FindingLink) → Holds given A l → Holds given B l
     up given A B f (link.Promise key) h = f key h

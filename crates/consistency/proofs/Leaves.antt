@@ -41,7 +41,7 @@ record LeafStep (ps : List PromiseKey) (fs : List Finding) (ws : List FindingLin
   first_way : First (All (Holds true (Con ps fs))) finding.alternatives way
   next : ((w : ℕ) × (l : FindingLink) × (step ≡ Some (Own w)) × (slice_get ws w ≡ Some l) × IsWord l × FirstMissing ps fs false k way l)
       ⊎ ((q : ℕ) × (other : PromiseKey) × (step ≡ Some (Via q)) × (slice_get ps q ≡ Some other) × FirstMissing ps fs false k way (link.Promise other)
-        × (get_or con q None ≡ None) × ((s : ℕ) × (get_or firm q None ≡ Some s) × (s ≤ k)))
+      × (get_or con q None ≡ None) × ((s : ℕ) × (get_or firm q None ≡ Some s) × (s ≤ k)))
 
 -- who is left at the end has not left
 not_left : (ps : List PromiseKey) (fs : List Finding) (con : List (Option ℕ)) → RunOf ps fs true con → (q : ℕ) (key : PromiseKey) → slice_get ps q ≡ Some key
@@ -78,13 +78,17 @@ leaf_next ps ws fs con firm runc runf k key le x first ls way z first_way = go (
   where
     all_con : All (Holds true (Con ps fs)) way
     all_con = let w = first_has (All (Holds true (Con ps fs))) x.alternatives way first_way in w.1
+
     lost : Survives false (Round ps fs false k) x → ⊥
     lost = let w = first_has (λ (y : Finding). (y.key.on ≡ key) × (Survives false (Round ps fs false k) y → ⊥)) fs x first in w.1.1
+
     way_in : Contains x.alternatives way
     way_in = let w = first_has (All (Holds true (Con ps fs))) x.alternatives way first_way in w.0
+
     found : (l : Link) → missing firm false k ls.items ≡ Some l → (y : FindingLink) × LinkOf ps ws l y × First (λ (l : FindingLink). Holds false (Round ps fs false k) l → ⊥) way y
     found l is = first_found (LinkOf ps ws) (λ l. not (stays firm false k l)) (λ (l : FindingLink). Holds false (Round ps fs false k) l → ⊥)
         (tells_missing false ps ws fs firm runf k le) ls.items way z l is
+
     target : (q : ℕ) (y : FindingLink) → LinkOf ps ws (Promise q) y → First (λ (l : FindingLink). Holds false (Round ps fs false k) l → ⊥) way y
         → LeafStep ps fs ws con firm k key (Some (Via q))
     target q (link.Promise other) r h =
@@ -99,11 +103,13 @@ leaf_next ps ws fs con firm runc runf k key le x first ls way z first_way = go (
         }
     target q (link.Vouched v) r h = absurd r
     target q (link.Assumed a b) r h = absurd r
+
     word : (w : ℕ) (y : FindingLink) → LinkOf ps ws (Word w) y → First (λ (l : FindingLink). Holds false (Round ps fs false k) l → ⊥) way y
         → LeafStep ps fs ws con firm k key (Some (Own w))
     word w (link.Promise other) r h = absurd r
     word w (link.Vouched v) r h = record { finding = x; way = way; first = first; first_way = first_way; next = inl (w, link.Vouched v, refl, r, tt, h) }
     word w (link.Assumed a b) r h = record { finding = x; way = way; first = first; first_way = first_way; next = inl (w, link.Assumed a b, refl, r, tt, h) }
+
     go : (o : Option Link) → missing firm false k ls.items ≡ o → LeafStep ps fs ws con firm k key (step_by o)
     go None is = absurd (lost (way, way_in, missing_none false ps ws fs firm runf k le ls way z is))
     go (Some (Promise q)) is = let w = found (Promise q) is in target q w.0 w.1 w.2
@@ -118,13 +124,14 @@ leaf_way ps ws fs con firm runc runf k key le c x r first held n count = go (fin
   where
     same : find (λ (ls : Vec Link Global). stays_all con true n ls.items) c.alternatives.items ≡ find (λ (ls : Vec Link Global). stays_all con true (length ps) ls.items) c.alternatives.items
     same = ap (λ (m : ℕ). find (λ (ls : Vec Link Global). stays_all con true m ls.items) c.alternatives.items) count
+
     go : (o : Option (Vec Link Global)) → find (λ (ls : Vec Link Global). stays_all con true n ls.items) c.alternatives.items ≡ o → LeafStep ps fs ws con firm k key (leaf_in firm k o)
     go None is = absurd (any_false (WayOf ps ws) (λ (ls : Vec Link Global). stays_all con true (length ps) ls.items) (All (Holds true (Con ps fs)))
         (tells_way true ps ws fs con runc (length ps) (omega arith)) c.alternatives.items x.alternatives r.ways
         (none_found (λ (ls : Vec Link Global). stays_all con true (length ps) ls.items) c.alternatives.items (sym same ∙ is)) held.0 held.1 held.2)
     go (Some ls) is =
         let w = first_found (WayOf ps ws) (λ (ls : Vec Link Global). stays_all con true (length ps) ls.items) (All (Holds true (Con ps fs)))
-            (tells_way true ps ws fs con runc (length ps) (omega arith)) c.alternatives.items x.alternatives r.ways ls (sym same ∙ is) in
+        (tells_way true ps ws fs con runc (length ps) (omega arith)) c.alternatives.items x.alternatives r.ways ls (sym same ∙ is) in
         leaf_next ps ws fs con firm runc runf k key le x first ls w.0 w.1 w.2
 
 leaf_step : (ps : List PromiseKey) (ws : List FindingLink) (cs : List Clause) (fs : List Finding) (con firm causes : List (Option ℕ)) (steps : List (Option Step))
@@ -134,17 +141,17 @@ leaf_step ps ws cs fs con firm causes steps s runc runf known are p k key at sta
     let within = runf.within p (suc k) is in let top = within.1 in
     let l = lost_at false ps ws cs fs firm causes s runf known p k key at is (get_or causes p None) refl in
     let step : get_or steps p None ≡ leaf_at con firm k (Some l.clause) =
-        are p (some_within firm p (suc k) is)
-        ∙ ap (λ (o : Option ℕ). leaf_by cs con firm o (get_or firm p None) (get_or causes p None)) stays_
-        ∙ ap (λ (o : Option ℕ). leaf_by cs con firm None o (get_or causes p None)) is
-        ∙ ap (λ (o : Option ℕ). leaf_by cs con firm None (Some (suc k)) o) l.is_cause
-        ∙ ap (λ (o : Option Clause). leaf_at con firm (suc k - 1) o) l.is_clause
-        ∙ ap (λ (z : ℕ). leaf_at con firm z (Some l.clause)) (down k) in
+    are p (some_within firm p (suc k) is)
+    ∙ ap (λ (o : Option ℕ). leaf_by cs con firm o (get_or firm p None) (get_or causes p None)) stays_
+    ∙ ap (λ (o : Option ℕ). leaf_by cs con firm None o (get_or causes p None)) is
+    ∙ ap (λ (o : Option ℕ). leaf_by cs con firm None (Some (suc k)) o) l.is_cause
+    ∙ ap (λ (o : Option Clause). leaf_at con firm (suc k - 1) o) l.is_clause
+    ∙ ap (λ (z : ℕ). leaf_at con firm z (Some l.clause)) (down k) in
     let held : Con ps fs key = in_con ps fs true con runc p key at stays_ in
     let on = first_has (λ (y : Finding). (y.key.on ≡ key) × (Survives false (Round ps fs false k) y → ⊥)) fs l.finding l.first in
     let good = (runc.greatest.consistent key held).1 l.finding l.there on.1.0 in
     subst (λ (o : Option Step). LeafStep ps fs ws con firm k key o) (sym step)
-        (leaf_way ps ws fs con firm runc runf k key (omega arith) l.clause l.finding l.pair l.first good (length con) runc.size)
+    (leaf_way ps ws fs con firm runc runf k key (omega arith) l.clause l.finding l.pair l.first good (length con) runc.size)
 
 -- what is answered of a contingent promise
 record Rests (ps : List PromiseKey) (fs : List Finding) (ws : List FindingLink) (key : PromiseKey) (o : Option ℕ) : Type 0 where
@@ -196,9 +203,11 @@ leaf_falls ps ws cs fs con firm causes steps s runc runf known are p q lt via = 
     key_of_place [] i lt = absurd (omega arith)
     key_of_place (x ∷ xs) zero lt = (x, refl)
     key_of_place (x ∷ xs) (suc i) lt = key_of_place xs i (omega arith)
+
     nothing : (a b : Option ℕ) → get_or con p None ≡ a → get_or firm p None ≡ b → get_or steps p None ≡ leaf_by cs con firm a b (get_or causes p None)
     nothing a b ia ib = are p lt ∙ ap (λ (o : Option ℕ). leaf_by cs con firm o (get_or firm p None) (get_or causes p None)) ia
         ∙ ap (λ (o : Option ℕ). leaf_by cs con firm a o (get_or causes p None)) ib
+
     go : (a b : Option ℕ) → get_or con p None ≡ a → get_or firm p None ≡ b → (r : ℕ) × (t : ℕ) × (get_or firm p None ≡ Some r) × (get_or firm q None ≡ Some t) × (t < r)
     go (Some x) b ia ib = absurd (let both = sym via ∙ nothing (Some x) b ia ib in cc)
     go None None ia ib = absurd (let both = sym via ∙ nothing None None ia ib in cc)
@@ -256,10 +265,11 @@ verdicts_of ps fs g con firm blames leaves v is runc runf be le rows known =
       distinct = is.distinct;
       numbers = subst (λ (z : List PromiseKey). Indexes z v.numbers) is.keys known;
       judged = λ i p at.
-          let w = get_within ps i p at in
-          (row_of g.clauses.items g.words.items (get_or con i None) (get_or firm i None) (get_or blames i None) (get_or leaves i None),
-          rows i (omega (arith, w, size)),
-          judged_by ps g.words.items g.clauses.items fs con firm blames leaves s rc rf be le i p at (get_or con i None) (get_or firm i None) refl refl);
+          let w = get_within ps i p at in (
+            row_of g.clauses.items g.words.items (get_or con i None) (get_or firm i None) (get_or blames i None) (get_or leaves i None),
+            rows i (omega (arith, w, size)),
+            judged_by ps g.words.items g.clauses.items fs con firm blames leaves s rc rf be le i p at (get_or con i None) (get_or firm i None) refl refl,
+          );
     }
 
 -- one row more

@@ -20,6 +20,7 @@ any_put t (y ∷ ys) x b h e = let w = or_fails (t y) (list_any t ys) h in or_ri
     or_fails : (a b : Bool) → (a || b) ≡ false → (a ≡ false) × (b ≡ false)
     or_fails true b h = absurd cc
     or_fails false b h = (refl, h)
+
     or_right : (a b c : Bool) → a ≡ false → b ≡ c → (a || b) ≡ c
     or_right true b c e h = absurd cc
     or_right false b c e h = h
@@ -66,9 +67,11 @@ find_more {X} t xs i x lt is e h = ap (λ (z : List X). find t z) (take_more xs 
     later : (b : Bool) (y : X) (o p : Option X) → cond b (Some y) o ≡ None → (o ≡ None → p ≡ None) → cond b (Some y) p ≡ None
     later true y o p h f = absurd cc
     later false y o p h f = f h
+
     one : (b : Bool) (y : X) → b ≡ false → cond b (Some y) None ≡ None
     one true y e = absurd cc
     one false y e = refl
+
     put : (t : X → Bool) (ys : List X) (x : X) → find t ys ≡ None → t x ≡ false → find t (ys ++ x ∷ []) ≡ None
     put t [] x h e = one (t x) x e
     put t (y ∷ ys) x h e = later (t y) y (find t ys) (find t (ys ++ x ∷ [])) h (λ h2. put t ys x h2 e)

@@ -29,7 +29,12 @@ fn first_cause(before: Option<u32>, lost: bool, finding: u32) -> Option<u32>
 }
 
 /// The first lost finding of each promise that left.
-pub(crate) fn causes_of(alloc: Global, clauses: &[Clause], left: &[Option<u32>], given: bool) -> Result<Vec<Option<u32>>, OutOfMemory>
+pub(crate) fn causes_of(
+    alloc: Global,
+    clauses: &[Clause],
+    left: &[Option<u32>],
+    given: bool,
+) -> Result<Vec<Option<u32>>, OutOfMemory>
     requires few { length left.now < 2 ^ 32 }
     requires ons { (k : ℕ) (d : Clause) → k < length clauses.now → (slice_index_or clauses.now k d).on < length left.now }
     ensures size { IfOk result (λ v. length v.items ≡ length left.now) }
@@ -45,7 +50,12 @@ pub(crate) fn causes_of(alloc: Global, clauses: &[Clause], left: &[Option<u32>],
     Ok(causes)
 }
 
-fn blame_step_of(clauses: &[Clause], left: &[Option<u32>], promise: usize, cause: Option<u32>) -> Option<Step>
+fn blame_step_of(
+    clauses: &[Clause],
+    left: &[Option<u32>],
+    promise: usize,
+    cause: Option<u32>,
+) -> Option<Step>
     ensures { result ≡ blame_by clauses.now left.now (slice_index_or left.now promise None) cause }
 {
     match (left.get(promise), cause) {
@@ -58,7 +68,12 @@ fn blame_step_of(clauses: &[Clause], left: &[Option<u32>], promise: usize, cause
 }
 
 /// The step towards the blame of each promise that left.
-pub(crate) fn blame_steps(alloc: Global, clauses: &[Clause], left: &[Option<u32>], causes: &[Option<u32>]) -> Result<Vec<Option<Step>>, OutOfMemory>
+pub(crate) fn blame_steps(
+    alloc: Global,
+    clauses: &[Clause],
+    left: &[Option<u32>],
+    causes: &[Option<u32>],
+) -> Result<Vec<Option<Step>>, OutOfMemory>
     requires { length causes.now ≡ length left.now }
     ensures size { IfOk result (λ v. length v.items ≡ length left.now) }
     ensures steps { IfOk result (λ v. BlameSteps clauses.now left.now causes.now (length left.now) v.items) }
@@ -70,7 +85,13 @@ pub(crate) fn blame_steps(alloc: Global, clauses: &[Clause], left: &[Option<u32>
     Ok(steps)
 }
 
-fn leaf_step_of(clauses: &[Clause], con: &[Option<u32>], firm: &[Option<u32>], promise: usize, cause: Option<u32>) -> Option<Step>
+fn leaf_step_of(
+    clauses: &[Clause],
+    con: &[Option<u32>],
+    firm: &[Option<u32>],
+    promise: usize,
+    cause: Option<u32>,
+) -> Option<Step>
     requires { length con.now < 2 ^ 32 }
     ensures { result ≡ leaf_by clauses.now con.now firm.now (slice_index_or con.now promise None) (slice_index_or firm.now promise None) cause }
 {
@@ -87,7 +108,13 @@ fn leaf_step_of(clauses: &[Clause], con: &[Option<u32>], firm: &[Option<u32>], p
 }
 
 /// The step towards the leaf of each promise that left where words don't count alone.
-pub(crate) fn leaf_steps(alloc: Global, clauses: &[Clause], con: &[Option<u32>], firm: &[Option<u32>], causes: &[Option<u32>]) -> Result<Vec<Option<Step>>, OutOfMemory>
+pub(crate) fn leaf_steps(
+    alloc: Global,
+    clauses: &[Clause],
+    con: &[Option<u32>],
+    firm: &[Option<u32>],
+    causes: &[Option<u32>],
+) -> Result<Vec<Option<Step>>, OutOfMemory>
     requires few { length con.now < 2 ^ 32 }
     requires size { length causes.now ≡ length firm.now }
     ensures size { IfOk result (λ v. length v.items ≡ length firm.now) }

@@ -57,12 +57,7 @@ fn put_links(flat: &mut Flat, way: u32, links: &[Link]) -> Result<(), OutOfMemor
 }
 
 // Puts an alternative of a finding at the end; one that rests on a word is barred unless words count.
-fn put_way(
-    flat: &mut Flat,
-    finding: u32,
-    given: bool,
-    links: &[Link],
-) -> Result<(), OutOfMemory>
+fn put_way(flat: &mut Flat, finding: u32, given: bool, links: &[Link]) -> Result<(), OutOfMemory>
     ensures { OnOk result (AddsWays given flat.old flat.new ((finding, links.now) ∷ [])) }
 {
     let way = short(flat.finding.len())?;

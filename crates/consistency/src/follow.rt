@@ -21,7 +21,11 @@ fn end_of(ends: &[Option<u32>], step: Option<Step>) -> Option<u32>
 }
 
 /// Where the steps from each promise that left end.
-pub(crate) fn ends_of(alloc: Global, rounds: &Rounds, steps: &[Option<Step>]) -> Result<Vec<Option<u32>>, OutOfMemory>
+pub(crate) fn ends_of(
+    alloc: Global,
+    rounds: &Rounds,
+    steps: &[Option<Step>],
+) -> Result<Vec<Option<u32>>, OutOfMemory>
     requires few { length rounds.now.left.items < 2 ^ 32 }
     requires size { length steps.now ≡ length rounds.now.left.items }
     requires order { InOrder rounds.now.left.items rounds.now.order.items }

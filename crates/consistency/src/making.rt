@@ -11,7 +11,11 @@ use std::alloc::Global;
 
 /// The number of a promise. A key that isn't among the promises, which callers rule out, is taken
 /// as want of memory.
-fn known_number(keys: &[PromiseKey], numbers: &Numbers, key: &PromiseKey) -> Result<u32, OutOfMemory>
+fn known_number(
+    keys: &[PromiseKey],
+    numbers: &Numbers,
+    key: &PromiseKey,
+) -> Result<u32, OutOfMemory>
     requires { Indexes keys.now numbers.now }
     ensures { IfOk result (λ n. slice_get keys.now n ≡ Some key.now) }
 {
@@ -21,7 +25,12 @@ fn known_number(keys: &[PromiseKey], numbers: &Numbers, key: &PromiseKey) -> Res
     }
 }
 
-fn link_of(keys: &[PromiseKey], numbers: &Numbers, words: &mut Vec<FindingLink>, link: &FindingLink) -> Result<Link, OutOfMemory>
+fn link_of(
+    keys: &[PromiseKey],
+    numbers: &Numbers,
+    words: &mut Vec<FindingLink>,
+    link: &FindingLink,
+) -> Result<Link, OutOfMemory>
     requires { Indexes keys.now numbers.now }
     ensures link { IfOk result (λ l. LinkOf keys.now words.new.items l link.now) }
     ensures words { OnOk result (Extends words.old.items words.new.items) }
@@ -34,7 +43,13 @@ fn link_of(keys: &[PromiseKey], numbers: &Numbers, words: &mut Vec<FindingLink>,
     Ok(Link::Word(number))
 }
 
-fn links_of(alloc: Global, keys: &[PromiseKey], numbers: &Numbers, words: &mut Vec<FindingLink>, links: &[FindingLink]) -> Result<Vec<Link>, OutOfMemory>
+fn links_of(
+    alloc: Global,
+    keys: &[PromiseKey],
+    numbers: &Numbers,
+    words: &mut Vec<FindingLink>,
+    links: &[FindingLink],
+) -> Result<Vec<Link>, OutOfMemory>
     requires { Indexes keys.now numbers.now }
     ensures links { IfOk result (λ v. WayOf keys.now words.new.items v links.now) }
     ensures words { OnOk result (Extends words.old.items words.new.items) }
@@ -46,7 +61,13 @@ fn links_of(alloc: Global, keys: &[PromiseKey], numbers: &Numbers, words: &mut V
     Ok(made)
 }
 
-fn ways_of(alloc: Global, keys: &[PromiseKey], numbers: &Numbers, words: &mut Vec<FindingLink>, ways: &[Alternative]) -> Result<Vec<Vec<Link>>, OutOfMemory>
+fn ways_of(
+    alloc: Global,
+    keys: &[PromiseKey],
+    numbers: &Numbers,
+    words: &mut Vec<FindingLink>,
+    ways: &[Alternative],
+) -> Result<Vec<Vec<Link>>, OutOfMemory>
     requires { Indexes keys.now numbers.now }
     ensures ways { IfOk result (λ v. AllZip (WayOf keys.now words.new.items) v.items ways.now) }
     ensures words { OnOk result (Extends words.old.items words.new.items) }
@@ -58,7 +79,13 @@ fn ways_of(alloc: Global, keys: &[PromiseKey], numbers: &Numbers, words: &mut Ve
     Ok(made)
 }
 
-fn clause_of(alloc: Global, keys: &[PromiseKey], numbers: &Numbers, words: &mut Vec<FindingLink>, finding: &Finding) -> Result<Clause, OutOfMemory>
+fn clause_of(
+    alloc: Global,
+    keys: &[PromiseKey],
+    numbers: &Numbers,
+    words: &mut Vec<FindingLink>,
+    finding: &Finding,
+) -> Result<Clause, OutOfMemory>
     requires { Indexes keys.now numbers.now }
     ensures clause { IfOk result (λ c. ClauseOf keys.now words.new.items c finding.now) }
     ensures words { OnOk result (Extends words.old.items words.new.items) }
@@ -72,7 +99,13 @@ fn clause_of(alloc: Global, keys: &[PromiseKey], numbers: &Numbers, words: &mut 
     })
 }
 
-fn clauses_of(alloc: Global, keys: &[PromiseKey], numbers: &Numbers, words: &mut Vec<FindingLink>, findings: &[Finding]) -> Result<Vec<Clause>, OutOfMemory>
+fn clauses_of(
+    alloc: Global,
+    keys: &[PromiseKey],
+    numbers: &Numbers,
+    words: &mut Vec<FindingLink>,
+    findings: &[Finding],
+) -> Result<Vec<Clause>, OutOfMemory>
     requires { Indexes keys.now numbers.now }
     ensures { IfOk result (λ v. AllZip (ClauseOf keys.now words.new.items) v.items findings.now) }
 {
@@ -95,7 +128,11 @@ fn copies(alloc: Global, keys: &[PromiseKey]) -> Result<Vec<PromiseKey>, OutOfMe
 
 /// The graph of a project: its promises, each once, and its findings in the order in which they are
 /// to be taken. The promises of the findings, and those that they link to, are among the promises.
-pub fn graph_of(alloc: Global, promises: &[PromiseKey], findings: &[Finding]) -> Result<Graph, OutOfMemory>
+pub fn graph_of(
+    alloc: Global,
+    promises: &[PromiseKey],
+    findings: &[Finding],
+) -> Result<Graph, OutOfMemory>
     requires { Distinct promises.now }
     ensures { IfOk result (λ graph. GraphOf promises.now findings.now graph) }
 {

@@ -44,7 +44,10 @@ pub(crate) fn is_lost_in(left: &[Option<u32>], given: bool, round: u32, clause: 
 fn missing_link(left: &[Option<u32>], given: bool, round: u32, links: &[Link]) -> Option<Link>
     ensures { result ≡ missing left.now given round links.now }
 {
-    links.iter().copied().find(|link| !stays_in(left, given, round, *link))
+    links
+        .iter()
+        .copied()
+        .find(|link| !stays_in(left, given, round, *link))
 }
 
 fn step_to(link: Option<Link>) -> Option<Step>
@@ -59,7 +62,12 @@ fn step_to(link: Option<Link>) -> Option<Step>
 
 /// The step from a promise that left after a round by its first lost finding: the finding itself
 /// where it has no alternative.
-pub(crate) fn blame_step(left: &[Option<u32>], finding: u32, round: u32, clause: &Clause) -> Option<Step>
+pub(crate) fn blame_step(
+    left: &[Option<u32>],
+    finding: u32,
+    round: u32,
+    clause: &Clause,
+) -> Option<Step>
     ensures { result ≡ blame_in left.now finding round clause.now.alternatives.items }
 {
     match clause.alternatives.first() {
@@ -70,7 +78,13 @@ pub(crate) fn blame_step(left: &[Option<u32>], finding: u32, round: u32, clause:
 
 /// The step from a promise that left after a round where words don't count, by its first lost
 /// finding: into the first alternative that is consistent where they do.
-pub(crate) fn leaf_step(con: &[Option<u32>], firm: &[Option<u32>], rounds: u32, round: u32, clause: &Clause) -> Option<Step>
+pub(crate) fn leaf_step(
+    con: &[Option<u32>],
+    firm: &[Option<u32>],
+    rounds: u32,
+    round: u32,
+    clause: &Clause,
+) -> Option<Step>
     requires { rounds ≡ length con.now }
     ensures { result ≡ leaf_at con.now firm.now round (Some clause.now) }
 {

@@ -7,9 +7,7 @@ use crate::code::code_of;
 use crate::values::value_of;
 use crate::words::first_word;
 use anyhow::{Context, Result, bail};
-use core_model::{
-    ClassInfo, FieldInfo, Initial, MAIN, NEW, Program, RUN, UnitCode, UnitName,
-};
+use core_model::{ClassInfo, FieldInfo, Initial, MAIN, NEW, Program, RUN, UnitCode, UnitName};
 use desk_base::{Name, Text};
 use sqlite_items::Items;
 use std::alloc::Global;

@@ -104,7 +104,13 @@ pub(crate) fn put_state(alloc: Global, out: &mut String, run: &Run<'_>) -> Resul
 fn put_access(out: &mut String, access: Option<Access>) -> Result<()> {
     match access {
         None => out.push_str("none")?,
-        Some(Access { object, field, write }) => {
+        Some(
+            Access {
+                object,
+                field,
+                write,
+            },
+        ) => {
             let word = if write { "write" } else { "read" };
             write!(out, "{word} of {object}.{field}")?;
         }

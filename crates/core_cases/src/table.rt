@@ -43,7 +43,13 @@ fn run_of<'a>(program: &'a str, heading: &'a str, schedule: &'a str) -> Result<R
 }
 
 // What the call of the heading answers to the line.
-fn put_case(alloc: Global, out: &mut String, program: &str, heading: &str, line: &str) -> Result<()> {
+fn put_case(
+    alloc: Global,
+    out: &mut String,
+    program: &str,
+    heading: &str,
+    line: &str,
+) -> Result<()> {
     if heading == "steps" {
         return put_steps(alloc, out, program, line);
     }
@@ -59,7 +65,13 @@ fn put_case(alloc: Global, out: &mut String, program: &str, heading: &str, line:
     bail!("no cases of {heading}")
 }
 
-fn put_line(alloc: Global, out: &mut String, program: &str, heading: &str, line: &str) -> Result<()> {
+fn put_line(
+    alloc: Global,
+    out: &mut String,
+    program: &str,
+    heading: &str,
+    line: &str,
+) -> Result<()> {
     out.push_str(line)?;
     if heading != "program" && !line.is_empty() && !line.starts_with("# ") {
         out.push_str(" => ")?;

@@ -1,5 +1,5 @@
 -- What is closed under the ways in which code goes on holds of what is left of each call, in every run.
-use Rattle.std.proofs.Common.{◌≡◌, ℕ, List, [], ◌∷◌, Option, Some, None, slice_get, ap, subst}
+use Rattle.std.proofs.Common.{◌≡◌, ℕ, List, Option, Some, None, slice_get, ap, subst}
 use Rattle.core_model.specs.Code.{Code, Done, Do, If, While, Enter, EnterClass, Exit, ◌⧺◌}
 use Rattle.core_model.specs.Begin.{begin}
 use Rattle.core_model.specs.Step.{with_given, next_exit, step, run}
@@ -11,8 +11,6 @@ use Rattle.core_model.specs.declared.program.UnitCode.{UnitCode}
 use Rattle.core_model.specs.declared.config.Call.{Call}
 use Rattle.core_model.specs.declared.config.Config.{Config}
 use Rattle.core_model.specs.declared.config.Thread.{Thread}
-use Rattle.core_model.specs.declared.config.Mode.{Mode}
-use Rattle.core_model.specs.declared.object.Obj.{Obj}
 use Rattle.core_model.specs.declared.value.Value.{Value}
 use Rattle.core_laws.specs.Places.{again, Each, EveryCall}
 use Rattle.core_laws.proofs.Stepping.{past, IsStepwise, stepped, at-begin, always, threads-all, threads-each}

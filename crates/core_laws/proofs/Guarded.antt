@@ -1,5 +1,5 @@
 -- Marks name what their locals hold, and the base of a guarded read is what its local holds.
-use Rattle.std.proofs.Common.{◌≡◌, ◌≢◌, take, drop, reverse, replicate, length, ◌++◌, ◌-◌, ℕ, zero, suc, ◌+◌, ◌<◌, ◌==◌, ◌&&◌, ◌||◌, not, ⊎_elim, Bool, true, false, List, [], ◌∷◌, Option, Some, None, if◌then◌else◌, slice_get, slice_set, refl, sym, ap, ◌∙◌, subst, arith}
+use Rattle.std.proofs.Common.{◌≡◌, take, reverse, replicate, length, ◌++◌, ◌-◌, ℕ, zero, suc, ◌+◌, ◌<◌, ◌==◌, ◌&&◌, ◌||◌, not, ⊎_elim, Bool, true, false, List, [], ◌∷◌, Option, Some, None, if◌then◌else◌, slice_get, slice_set, refl, sym, ap, ◌∙◌, subst, arith}
 use Rattle.std.proofs.lemmas.Bool.Decides.{eqb_tells}
 use Rattle.core_model.specs.Code.{Code, Done, Do, If, While, Enter, EnterClass, Exit, ◌⧺◌}
 use Rattle.core_model.specs.Units.{unit_number, call_with}
@@ -13,20 +13,18 @@ use Rattle.core_model.specs.declared.program.Program.{Program}
 use Rattle.core_model.specs.declared.program.UnitCode.{UnitCode}
 use Rattle.core_model.specs.declared.config.Call.{Call}
 use Rattle.core_model.specs.declared.config.Config.{Config}
-use Rattle.core_model.specs.declared.config.Thread.{Thread}
 use Rattle.core_model.specs.declared.config.Gives.{Gives}
 use Rattle.core_model.specs.declared.config.Gives.TheVariants.{Own, Object}
 use Rattle.core_model.specs.declared.config.Mode.TheVariants as mode
-use Rattle.core_model.specs.declared.object.Obj.{Obj}
 use Rattle.core_model.specs.declared.value.Value.{Value}
 use Rattle.core_model.specs.declared.value.Value.TheVariants as value
-use Rattle.core_laws.specs.Places.{again, Along, Always, Each}
+use Rattle.core_laws.specs.Places.{again, Always}
 use Rattle.core_laws.specs.Marks.{Unmarked, Spined, HasNoMarks, marks_in, marks_in_calls, marks_by, entries_of, owner_at, Counted}
 use Rattle.core_laws.proofs.Owners.{get-other}
 use Rattle.core_laws.proofs.Spines.{unmarked-spined, spined-closed}
 use Rattle.core_laws.proofs.Always.{always-closed, always-here}
 use Rattle.core_laws.proofs.Marked.{owned-by, counted-whole}
-use Rattle.core_laws.specs.Guards.{Promised, Dispatched, called_well, known_local, is_at, claims, based_by, based, gets, follows, is_none, leaves_claims, guarded, sound}
+use Rattle.core_laws.specs.Guards.{Promised, Dispatched, called_well, known_local, is_at, claims, based_by, based, follows, is_none, guarded, sound}
 use Rattle.core_laws.proofs.Stacks.{IsPlain, IsClosedCall, calls-carried}
 
 -- ---- booleans

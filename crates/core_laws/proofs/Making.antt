@@ -1,18 +1,15 @@
 -- A call that makes an object is of a constructor, and keeps the object as its `this`.
-use Rattle.std.proofs.Common.{◌≡◌, ℕ, ◌==◌, not, ⊎_elim, Bool, true, false, List, [], ◌∷◌, Option, Some, slice_get, slice_set, refl, sym, ◌∙◌, subst}
-use Rattle.std.proofs.lemmas.Bool.Decides.{eqb_tells}
-use Rattle.core_model.specs.Code.{Code, Done, Do, If, While, Enter, EnterClass, Exit, ◌⧺◌}
-use Rattle.core_model.specs.Units.{unit_number, call_with}
+use Rattle.std.proofs.Common.{◌≡◌, ℕ, ◌==◌, true, false, List, ◌∷◌, Some, slice_get, slice_set, refl, ◌∙◌, subst}
+use Rattle.core_model.specs.Code.{Code, Do}
+use Rattle.core_model.specs.Units.{unit_number}
 use Rattle.core_model.specs.Begin.{begin}
 use Rattle.core_model.specs.Step.{run}
 use Rattle.core_model.specs.declared.program.TheConstants.{NEW}
-use Rattle.core_model.specs.declared.instr.Plain.{Plain}
 use Rattle.core_model.specs.declared.instr.Plain.TheVariants as plain
 use Rattle.core_model.specs.declared.program.Program.{Program}
 use Rattle.core_model.specs.declared.program.UnitCode.{UnitCode}
 use Rattle.core_model.specs.declared.config.Call.{Call}
 use Rattle.core_model.specs.declared.config.Config.{Config}
-use Rattle.core_model.specs.declared.config.Thread.{Thread}
 use Rattle.core_model.specs.declared.config.Gives.{Gives}
 use Rattle.core_model.specs.declared.config.Gives.TheVariants.{Own, Object}
 use Rattle.core_model.specs.declared.config.Mode.TheVariants as mode

@@ -1,6 +1,6 @@
 -- What is closed under the ways in which a call goes on, begins another, and is gone back to, holds of each call in every run: G of
 -- a call and of those beneath it, whatever the temporaries are that instructions leave which get and set no local.
-use Rattle.std.proofs.Common.{◌≡◌, ℕ, ◌+◌, true, List, [], ◌∷◌, Option, Some, None, slice_get, slice_set, take, drop, reverse, refl, subst}
+use Rattle.std.proofs.Common.{◌≡◌, ℕ, ◌+◌, List, [], ◌∷◌, Option, Some, None, slice_get, slice_set, take, drop, reverse, refl, subst}
 use Rattle.core_model.specs.Code.{Code, Do, If, While, Enter, EnterClass, Exit, ◌⧺◌}
 use Rattle.core_model.specs.Units.{unit_number, call_with}
 use Rattle.core_model.specs.Begin.{begin}
@@ -12,7 +12,6 @@ use Rattle.core_model.specs.declared.instr.Plain.TheVariants as plain
 use Rattle.core_model.specs.declared.program.Program.{Program}
 use Rattle.core_model.specs.declared.program.UnitCode.{UnitCode}
 use Rattle.core_model.specs.declared.config.Call.{Call}
-use Rattle.core_model.specs.declared.config.Config.{Config}
 use Rattle.core_model.specs.declared.config.Thread.{Thread}
 use Rattle.core_model.specs.declared.config.Gives.TheVariants.{Own, Object}
 use Rattle.core_model.specs.declared.config.Mode.{Mode}

@@ -1,21 +1,19 @@
 -- What each kind of a thread's step keeps holds of each thread in every run: G of the objects, a thread's number, its mode and its
 -- calls. R is what a thread's step may do to the objects, on which the other threads rely; K is what is known of each thread.
-use Rattle.std.proofs.Common.{◌≡◌, ◌≢◌, ℕ, zero, suc, ◌+◌, ⊎_elim, Bool, true, false, not, List, [], ◌∷◌, ◌++◌, ◌⊎◌, inl, inr, Option, Some, None, if◌then◌else◌, map, length, slice_get, slice_set, nat_lt, nat_le, is_some, take, drop, reverse, refl, sym, ap, ◌∙◌, subst}
+use Rattle.std.proofs.Common.{◌≡◌, ◌≢◌, ℕ, zero, suc, ◌+◌, ⊎_elim, Bool, true, false, List, [], ◌∷◌, ◌++◌, ◌⊎◌, inl, inr, Option, Some, None, if◌then◌else◌, map, length, slice_get, slice_set, nat_lt, nat_le, is_some, take, drop, reverse, refl, sym, ap, ◌∙◌, subst}
 use Rattle.std.specs.Option.{option_to_list}
 use Rattle.std.proofs.lemmas.Bool.Decides.{eqb_tells}
 use Rattle.core_model.specs.Code.{Code, Done, Do, If, While, Enter, EnterClass, Exit, ◌⧺◌}
-use Rattle.core_model.specs.Frames.{with_objects, with_temps, with_rest, after, goes_on, ends, push_if}
-use Rattle.core_model.specs.Straight.{with_local, set_from, drop_from, read, field_from, keep_from, write, put_on, put_from, put_static_from, operate_from, neg_from, not_from, return_value_from, branch_from}
+use Rattle.core_model.specs.Frames.{with_objects, with_temps, goes_on, ends}
+use Rattle.core_model.specs.Straight.{with_local, set_from, write, put_from, put_static_from, return_value_from, branch_from}
 use Rattle.core_model.specs.Calling.{begins, construct, make_of, make_from, receiver, call_in, call_at, call_from, call_static_from, start_with, start_in, start_from}
 use Rattle.core_model.specs.Monitors.{take_monitor, enter_from, enter_class}
 use Rattle.core_model.specs.Objects.{fresh_object, field_at, with_field, changed, class_of, made, blocks, is_other, entered, exited}
-use Rattle.core_model.specs.Operators.{operated, negated}
 use Rattle.core_model.specs.Units.{unit_number, call_with, call_for, call_of}
 use Rattle.core_model.specs.Begin.{no_thread, begin, begun_objects, begun_thread, main_thread}
-use Rattle.core_model.specs.Step.{do_plain, given, with_given, resumed, caller_ended, running_step, next_exit, leaving_step, ending_step, call_step, thread_step, with_step, step_of, step, run}
+use Rattle.core_model.specs.Step.{do_plain, given, with_given, resumed, running_step, next_exit, leaving_step, ending_step, call_step, thread_step, step_of, step, run}
 use Rattle.core_model.specs.declared.program.TheConstants.{NEW, MAIN, RUN}
 use Rattle.core_model.specs.declared.instr.Note.{Note}
-use Rattle.core_model.specs.declared.instr.Op.{Op}
 use Rattle.core_model.specs.declared.instr.Plain.{Plain}
 use Rattle.core_model.specs.declared.instr.Plain.TheVariants as plain
 use Rattle.core_model.specs.declared.program.Program.{Program}
@@ -24,7 +22,6 @@ use Rattle.core_model.specs.declared.program.UnitCode.{UnitCode}
 use Rattle.core_model.specs.declared.config.Call.{Call}
 use Rattle.core_model.specs.declared.config.Config.{Config}
 use Rattle.core_model.specs.declared.config.Thread.{Thread}
-use Rattle.core_model.specs.declared.config.Gives.{Gives}
 use Rattle.core_model.specs.declared.config.Gives.TheVariants.{Own, Object}
 use Rattle.core_model.specs.declared.config.Mode.{Mode}
 use Rattle.core_model.specs.declared.config.Mode.TheVariants as mode

@@ -1,5 +1,5 @@
 -- Code that leaves `this` as it is.
-use Rattle.std.specs.Prelude.{ℕ, ◌==◌, not, Bool, true, false}
+use Rattle.std.specs.Prelude.{◌==◌, not, Bool, true, false}
 use Rattle.core_model.specs.Code.{Code, Do}
 use Rattle.core_model.specs.declared.instr.Plain.{Plain}
 use Rattle.core_model.specs.declared.instr.Plain.TheVariants as plain

@@ -1,5 +1,5 @@
 -- What a table and the code say of guarded reads.
-use Rattle.std.specs.Prelude.{◌≡◌, ℕ, zero, suc, if◌then◌else◌, ◌==◌, ◌&&◌, ◌||◌, not, Bool, true, false, List, [], ◌∷◌, Option, Some, None, slice_get}
+use Rattle.std.specs.Prelude.{◌≡◌, ℕ, zero, suc, if◌then◌else◌, ◌==◌, ◌&&◌, ◌||◌, not, Bool, true, false, Option, Some, None}
 use Rattle.core_model.specs.Code.{Code, Done, Do, If, While, Enter, EnterClass, Exit, ◌⧺◌}
 use Rattle.core_model.specs.declared.instr.Claim.{Claim}
 use Rattle.core_model.specs.declared.instr.Claim.TheVariants as claim

@@ -6,8 +6,7 @@ ghost use Rattle.core_model.specs.NextAccess.{first_plain};
 ghost use Rattle.core_model.specs.Step.{next_exit};
 
 use crate::instr::{ClassId, Note, Plain};
-use desk_base::OutOfMemory;
-use sqlite_items::Items;
+use desk_base::{Items, OutOfMemory};
 use std::alloc::Global;
 use std::marker::Model;
 

@@ -8,8 +8,7 @@ use crate::object::{Obj, ObjKind};
 use crate::program::{NEW, Program, RUN};
 use crate::stack::Stack;
 use crate::value::Value;
-use desk_base::OutOfMemory;
-use sqlite_items::Items;
+use desk_base::{Items, OutOfMemory};
 use std::alloc::Global;
 
 /// `this` before the arguments.

@@ -4,7 +4,7 @@ use crate::instr::UnitId;
 use crate::stack::Stack;
 use crate::threads::Threads;
 use crate::value::Value;
-use sqlite_items::Items;
+use desk_base::Items;
 
 /// What the end of a call pushes onto its caller's temporaries: its result, if it has one, or the
 /// object that it was to make.

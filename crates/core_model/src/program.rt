@@ -4,8 +4,7 @@ ghost use Rattle.std.specs.Option.{option_copied};
 use crate::body::Body;
 use crate::instr::{ClassId, MemberId, UnitId};
 use crate::value::Value;
-use desk_base::{Name, Text};
-use sqlite_items::Items;
+use desk_base::{Items, Name, Text};
 
 /// The number of the member name `new`, which a constructor has.
 pub const NEW: MemberId = 0;

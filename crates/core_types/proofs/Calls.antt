@@ -24,7 +24,7 @@ use Rattle.core_model.specs.declared.frame.Frame.{Frame}
 use Rattle.core_model.specs.declared.frame.After.{After}
 use Rattle.core_model.specs.declared.value.Value.{Value}
 use Rattle.core_model.specs.declared.value.Value.TheVariants as value
-use Rattle.core_types.specs.Types.{Ty, ClassType, RunnableType, AnyType, Types, of_class, of_unit, args_of, not_empty, is_instance, has, is_class, is_runnable}
+use Rattle.core_types.specs.Types.{Ty, ClassType, RunnableType, Types, of_class, of_unit, args_of, not_empty, is_instance, has, is_class, is_runnable}
 use Rattle.core_types.specs.Belonging.{refers, may_run, is_of, Belongs, AllBelong}
 use Rattle.core_types.specs.Uses.{Goes, Wrong, lists_name, made_bare, unless_new, constructed, of_make, called, called_on, called_static, of_call}
 use Rattle.core_types.specs.Need.{need_of, AllSuit, UseFits}

@@ -6,11 +6,10 @@ use Rattle.core_model.specs.declared.instr.Plain.{Plain}
 use Rattle.core_model.specs.declared.instr.Plain.TheVariants as plain
 use Rattle.core_model.specs.declared.program.Program.{Program}
 use Rattle.core_laws.specs.Places.{again}
-use Rattle.core_types.specs.Types.{Ty, BoolType, ObjectType, Types, UnitTypes}
+use Rattle.core_types.specs.Types.{Ty, Types, UnitTypes}
 use Rattle.core_types.specs.Belonging.{Suits}
 use Rattle.core_types.specs.Slots.{Uses, need_by, FitsBy}
 use Rattle.core_types.specs.Need.{need, need_of, by_type, Fits}
-use Rattle.core_types.specs.Uses.{use_of}
 use Rattle.core_types.specs.Paths.{reads, reads_by, ends, ends_by, pushes_true, is_done, is_always_true}
 
 -- ---- temporaries

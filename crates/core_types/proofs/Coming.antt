@@ -1,14 +1,14 @@
 -- The temporaries of calls come from where is known.
-use Rattle.std.proofs.Common.{◌≡◌, ◌≢◌, ℕ, zero, suc, ◌+◌, ◌==◌, ◌||◌, ◌&&◌, not, ⊎_elim, Bool, true, false, if◌then◌else◌, List, [], ◌∷◌, ◌++◌, Option, Some, None, length, slice_get, slice_set, take, drop, reverse, refl, sym, ap, ◌∙◌, subst, arith, length-append, length-drop}
+use Rattle.std.proofs.Common.{◌≡◌, ℕ, zero, suc, ◌+◌, ◌==◌, ◌||◌, ◌&&◌, not, ⊎_elim, Bool, true, false, if◌then◌else◌, List, [], ◌∷◌, ◌++◌, Option, Some, None, length, slice_get, slice_set, take, drop, reverse, refl, sym, ap, ◌∙◌, subst, arith, length-append, length-drop}
 use Rattle.std.specs.Option.{option_to_list}
 use Rattle.std.proofs.lemmas.Bool.Decides.{eqb_tells}
 use Rattle.std.proofs.lemmas.List.{length-reverse}
-use Rattle.core_model.specs.Code.{Code, Done, Do, If, While, Enter, EnterClass, Exit, ◌⧺◌}
+use Rattle.core_model.specs.Code.{Code, Done, Do, Exit}
 use Rattle.core_model.specs.Objects.{field_at}
 use Rattle.core_model.specs.Operators.{operated, negated}
 use Rattle.core_model.specs.Units.{unit_number, call_with}
 use Rattle.core_model.specs.Begin.{begin}
-use Rattle.core_model.specs.Step.{given, with_given, step, run}
+use Rattle.core_model.specs.Step.{given, with_given, run}
 use Rattle.core_model.specs.declared.program.TheConstants.{NEW, RUN}
 use Rattle.core_model.specs.declared.instr.Known.{Known}
 use Rattle.core_model.specs.declared.instr.Known.TheVariants as known
@@ -28,20 +28,20 @@ use Rattle.core_model.specs.declared.config.Mode.TheVariants as mode
 use Rattle.core_model.specs.declared.object.Obj.{Obj}
 use Rattle.core_model.specs.declared.value.Value.{Value}
 use Rattle.core_model.specs.declared.value.Value.TheVariants as value
-use Rattle.core_laws.specs.Places.{again, Always, Each}
+use Rattle.core_laws.specs.Places.{Always, Each}
 use Rattle.core_laws.proofs.Owners.{get-other}
 use Rattle.core_laws.proofs.Always.{always-closed, always-here}
 use Rattle.core_laws.proofs.Temps.{IsTemporary, temps_after, pushed, dropped, field_temps, keep_temps, op_temps, neg_temps, not_temps}
 use Rattle.core_laws.proofs.Stepping.{or_over, IsStepwise, found, always, threads-each}
-use Rattle.core_types.specs.Types.{Ty, RunnableType, ClassType, AnyType, Types, UnitTypes, of_unit, args_of, is_instance, has}
+use Rattle.core_types.specs.Types.{Ty, RunnableType, Types, of_unit, args_of, is_instance, has}
 use Rattle.core_types.specs.Belonging.{AllBelong}
-use Rattle.core_types.specs.Slots.{Use, Goes, Leaves, Wrong, need_of, Suiting, UseSuits, need_by, FitsBy}
+use Rattle.core_types.specs.Slots.{Use, Goes, Leaves, Wrong, need_of, Suiting, UseSuits, FitsBy}
 use Rattle.core_types.specs.Uses.{called, called_on, called_static, unless_new, of_call, use_of}
 use Rattle.core_types.specs.Need.{need, AllSuit, UseFits}
 use Rattle.core_types.specs.Paths.{true_on_top}
 use Rattle.core_types.specs.Programs.{Returns, ProgramFits}
-use Rattle.core_types.specs.Configs.{need_in, result_in, Awaits, ResultFits, CallsFit, ThreadFits, ConfigFits}
-use Rattle.core_types.specs.Origins.{Origin, OriginSuits, Operands, first_of, operands_of, unknown, gives_of, takes_of, origin_use, monitor_origin, by_origin, origins, asks, sets_apart, is_apart, OriginsFit, HasOrigin, HaveOrigins}
+use Rattle.core_types.specs.Configs.{Awaits, ResultFits, CallsFit, ThreadFits, ConfigFits}
+use Rattle.core_types.specs.Origins.{Origin, OriginSuits, Operands, first_of, operands_of, unknown, gives_of, takes_of, origin_use, by_origin, origins, asks, is_apart, OriginsFit, HasOrigin, HaveOrigins}
 use Rattle.core_types.proofs.Codes.{need_by-append, fits_by-append, need_by-turn, fits_by-turn}
 use Rattle.core_types.proofs.Heaps.{some-is}
 use Rattle.core_types.proofs.Numbers.{member-at}

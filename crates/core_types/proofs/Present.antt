@@ -1,15 +1,12 @@
 -- Values of a well typed configuration name objects that are there.
-use Rattle.std.proofs.Common.{◌≡◌, ℕ, true, false, List, [], ◌∷◌, Option, Some, None, slice_get, is_some, refl, sym, ap, ◌∙◌, subst}
+use Rattle.std.proofs.Common.{◌≡◌, ℕ, true, List, [], ◌∷◌, Option, Some, None, slice_get, is_some, refl, sym, subst}
 use Rattle.core_model.specs.Objects.{field_of, field_at}
 use Rattle.core_model.specs.declared.program.Program.{Program}
 use Rattle.core_model.specs.declared.object.Obj.{Obj}
-use Rattle.core_model.specs.declared.object.ObjKind.{ObjKind}
-use Rattle.core_model.specs.declared.object.ObjKind.TheVariants as kind
 use Rattle.core_model.specs.declared.config.Call.{Call}
 use Rattle.core_model.specs.declared.config.Config.{Config}
 use Rattle.core_model.specs.declared.config.Thread.{Thread}
-use Rattle.core_model.specs.declared.config.Gives.{Gives}
-use Rattle.core_model.specs.declared.config.Gives.TheVariants.{Own, Object}
+use Rattle.core_model.specs.declared.config.Gives.TheVariants.{Object}
 use Rattle.core_model.specs.declared.config.Mode.{Mode}
 use Rattle.core_model.specs.declared.config.Mode.TheVariants as mode
 use Rattle.core_model.specs.declared.value.Value.{Value}
@@ -21,7 +18,6 @@ use Rattle.core_types.specs.Types.{Ty, AnyType, Types}
 use Rattle.core_types.specs.Belonging.{if_kind, is_object, Belongs}
 use Rattle.core_types.specs.Configs.{AllThere, GivesThere, IsThere, need_in, result_in, fields_types, ResultFits, CallsFit, ThreadFits, ConfigFits}
 use Rattle.core_types.proofs.Numbers.{belongs-any, all-there, TempsThere, beneath-there}
-use Rattle.core_types.proofs.Heaps.{some-is}
 
 object-there : (o : Option Obj) → if_kind (kind_of o) is_object ≡ true → is_some o ≡ true
 object-there None h = absurd (let no : ⊥ = cc in no)

@@ -2,7 +2,7 @@
 use Rattle.std.proofs.Common.{◌≡◌, ◌≢◌, ℕ, zero, suc, ◌==◌, ◌||◌, ◌&&◌, not, ⊎_elim, Bool, true, false, List, [], ◌∷◌, ◌++◌, Option, Some, None, slice_get, slice_set, is_some, refl, sym, ap, ◌∙◌, subst}
 use Rattle.std.proofs.lemmas.Bool.Decides.{eqb_tells}
 use Rattle.core_model.specs.Code.{Code, Do}
-use Rattle.core_model.specs.Objects.{field_of, field_at, with_field, put_for, changed, entered, exited, made, fresh_object}
+use Rattle.core_model.specs.Objects.{field_of, field_at, with_field, put_for, changed, entered, exited, fresh_object}
 use Rattle.core_model.specs.Begin.{begin}
 use Rattle.core_model.specs.Step.{step, run}
 use Rattle.core_model.specs.declared.instr.Known.{Known}
@@ -27,7 +27,7 @@ use Rattle.core_laws.proofs.Shaping.{change-kind, append-kind}
 use Rattle.core_laws.proofs.Always.{always-closed, always-here}
 use Rattle.core_laws.proofs.Carried.{Has, UnitsHave, step-has, begin-has}
 use Rattle.core_laws.proofs.Stepping.{or_over, IsStepwise, moved, threads-each}
-use Rattle.core_types.specs.Types.{Ty, ClassType, ClassTypes, Types, or_no_class, of_class, of_unit, has, is_class}
+use Rattle.core_types.specs.Types.{Ty, ClassTypes, Types, or_no_class, of_class, of_unit, has, is_class}
 use Rattle.core_types.specs.Belonging.{is_of, AllBelong}
 use Rattle.core_types.specs.Uses.{popped, field_written, of_field}
 use Rattle.core_types.specs.Need.{need_of, UseFits, need}

@@ -21,7 +21,7 @@ use Rattle.core_laws.specs.Shape.{kind_of, HasItsFields}
 use Rattle.core_laws.proofs.Lists.{each-get, each-set, each-append}
 use Rattle.core_laws.proofs.Carried.{step-has, begin-has}
 use Rattle.core_laws.proofs.Spines.{spined-closed}
-use Rattle.core_laws.proofs.Marked.{spined-units, counted-step_of, counted-begin}
+use Rattle.core_laws.proofs.Marked.{spined-units, counted-step, counted-begin}
 use Rattle.core_laws.proofs.Flows.{there-step}
 use Rattle.core_laws.proofs.Shaping.{kind-step, fields-kept, shaped-run}
 use Rattle.core_types.specs.Types.{Types, of_unit, has, args_of}
@@ -92,7 +92,7 @@ module _ (p : Program) (T : Types) where
         there = s.there;
         threads = s.threads;
         spined = step-has (λ _. Spined) (λ _. spined-closed) p (spined-units p w.program.unmarked) c t w.spined;
-        counted = counted-step_of p w.program.unmarked c t (slice_get c.threads t) refl w.spined w.counted;
+        counted = counted-step p w.program.unmarked c t w.spined w.counted;
       }
 
   -- ---- the beginning

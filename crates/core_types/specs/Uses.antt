@@ -1,5 +1,5 @@
 -- What each instruction takes from the temporaries, and what it pushes.
-use Rattle.std.specs.Prelude.{ℕ, zero, suc, ◌==◌, ◌&&◌, ◌||◌, Bool, true, false, List, [], ◌∷◌, Option, Some, None, if◌then◌else◌, slice_get, reverse}
+use Rattle.std.specs.Prelude.{ℕ, zero, suc, ◌==◌, ◌&&◌, ◌||◌, Bool, false, List, [], ◌∷◌, Option, Some, None, if◌then◌else◌, slice_get, reverse}
 use Rattle.std.specs.Option.{option_to_list}
 use Rattle.core_model.specs.Units.{unit_number}
 use Rattle.core_model.specs.declared.program.TheConstants.{NEW, RUN}

@@ -127,15 +127,6 @@ fn put_member(out: &mut String, member: &MemberContent) -> Result<()> {
     Ok(())
 }
 
-#[cycle(tree)]
-fn put_inner(out: &mut String, tree: &PromiseTree) -> Result<()> {
-    out.push('{')?;
-    put_tree(out, tree)?;
-    out.push('}')?;
-    Ok(())
-}
-
-#[cycle(tree)]
 fn put_tree(out: &mut String, tree: &PromiseTree) -> Result<()> {
     match tree {
         PromiseTree::Region(region) => put_region(out, region),
@@ -149,11 +140,15 @@ fn put_tree(out: &mut String, tree: &PromiseTree) -> Result<()> {
         PromiseTree::RegionEffects(effects) => put_effects(out, effects),
         PromiseTree::Starts => put_bytes(out, b"starts"),
         PromiseTree::Promise(inner, scope) => {
-            put_inner(out, inner.get())?;
+            out.push('{')?;
+            put_tree(out, inner.get())?;
+            out.push('}')?;
             put_scope(out, scope)
         }
         PromiseTree::Assume(inner, member) => {
-            put_inner(out, inner.get())?;
+            out.push('{')?;
+            put_tree(out, inner.get())?;
+            out.push('}')?;
             put_member(out, member)
         }
         PromiseTree::Vouch(text) => {

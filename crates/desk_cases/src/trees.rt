@@ -4,8 +4,8 @@ use crate::surfaces::put_bytes;
 use anyhow::Result;
 use java_heads::Header;
 use java_tree::{
-    Annot, AnnotLayer, Block, BlockItem, Elem, Elements, Expr, Field, Import, MemberTree, Mod, Package, Sig,
-    Stmt,
+    Annot, AnnotLayer, Block, BlockItem, Elem, Elements, Expr, Field, Import, MemberTree, Mod,
+    Package, Sig, Stmt,
 };
 
 /// What a case prints of a tree.

@@ -29,6 +29,13 @@ fn small(alloc: Global, tokens: &mut Tokens) -> Result<Tall, SyntaxError>
     })
 }
 
+/// An expression that is one node.
+fn leaf(expr: Expr) -> Tall
+    ensures { result ≡ spec.tall expr 1 }
+{
+    Tall { expr, height: 1 }
+}
+
 /// The name of a class behind `new`.
 #[tactic(auto, unfolding(crate::specs::Reading::class_name))]
 fn class_name(alloc: Global, tokens: &mut Tokens) -> Result<Lexeme, SyntaxError>
@@ -305,19 +312,21 @@ impl<F: Fn(Global, &mut Tokens, u8, u8) -> Result<Tall, SyntaxError>> Grammar<F>
         requires { Nests self.now.room (F.pre self.now.expr) (F.post self.now.expr) }
         ensures { Steps (spec.primary (spec.expr self.now.room)) tokens.old result tokens.new }
     {
-        let expr = match tokens.peek() {
-            Some(Kind::IntLiteral) => return small(self.alloc, tokens),
-            Some(Kind::Name) => return self.named(tokens),
-            Some(Kind::New) => return self.created(tokens),
-            Some(Kind::LParen) => return self.parenthesized(tokens),
-            Some(Kind::StrLiteral) => Expr::Str(tokens.word(self.alloc, Kind::StrLiteral)?),
-            Some(Kind::True) => Expr::True(tokens.sign(Kind::True)?),
-            Some(Kind::False) => Expr::False(tokens.sign(Kind::False)?),
-            Some(Kind::Null) => Expr::Null(tokens.sign(Kind::Null)?),
-            Some(Kind::This) => Expr::This(tokens.sign(Kind::This)?),
-            _ => return Err(SyntaxError::NotSpelled),
-        };
-        Ok(Tall { expr, height: 1 })
+        match tokens.peek() {
+            Some(Kind::IntLiteral) => small(self.alloc, tokens),
+            Some(Kind::Name) => self.named(tokens),
+            Some(Kind::New) => self.created(tokens),
+            Some(Kind::LParen) => self.parenthesized(tokens),
+            Some(Kind::StrLiteral) => Ok(leaf(Expr::Str(tokens.word(
+                self.alloc,
+                Kind::StrLiteral,
+            )?))),
+            Some(Kind::True) => Ok(leaf(Expr::True(tokens.sign(Kind::True)?))),
+            Some(Kind::False) => Ok(leaf(Expr::False(tokens.sign(Kind::False)?))),
+            Some(Kind::Null) => Ok(leaf(Expr::Null(tokens.sign(Kind::Null)?))),
+            Some(Kind::This) => Ok(leaf(Expr::This(tokens.sign(Kind::This)?))),
+            _ => Err(SyntaxError::NotSpelled),
+        }
     }
 
     /// A selection of the expression, or a call on it.

@@ -1,7 +1,8 @@
 -- Where the tokens stand at which reading may end.
-use Rattle.std.proofs.Common.{◌≡◌, ℕ, ◌≤◌, Bool, true, false, cond, List, [], ◌∷◌, ◌++◌, length, Option, Some, None, refl, ap, sym, ◌∙◌, subst, arith}
+use Rattle.std.proofs.Common.{◌≡◌, ℕ, ◌≤◌, Bool, true, false, cond, List, [], ◌∷◌, ◌++◌, length, Option, Some, None, refl, ap, sym, ◌∙◌, subst, arith, nat_le}
 use Rattle.std.specs.List.{find}
 use Rattle.std.proofs.lemmas.List.{append-nil}
+use Rattle.std.proofs.lemmas.Bool.{leb-true}
 use Rattle.java_tree.specs.declared.kind.Kind.TheVariants as k
 use Rattle.java_tree.specs.declared.token.Token.{Token}
 use Rattle.java_tree.specs.declared.member.MemberTree.{MemberTree}
@@ -11,7 +12,7 @@ use Rattle.java_phrases.proofs.Phrases.{Spent, spent-nothing, spent-then}
 use Rattle.java_heads.proofs.Lists.{Spends, spends-mark}
 use Rattle.java_reader.specs.Parts.{Part, PackageLine, ImportLine, Opening, Inner, Closing, Stage, Start, Lines, Types, Body, MemberAt, PartSpells, PartsSpell, stage_after}
 use Rattle.java_reader.specs.Reads.{IsGrammarAt, place_of}
-use Rattle.java_reader.specs.Reach.{StandsIn}
+use Rattle.java_reader.specs.Reach.{StandsIn, first_behind}
 use Rattle.java_reader.proofs.Shorter.{spends-package, spends-import}
 use Rattle.java_reader.proofs.Order.{kept, follow-behind, follow-within}
 use Rattle.java_members.specs.Spelling.{tokens_of}
@@ -70,9 +71,9 @@ found-in : (p : Token → Bool) (ts : List Token) (t : Token) → find p ts ≡ 
 found-in p [] t e = cc
 found-in p (u ∷ ts) t e = found-in_by p u ts t (p u) refl e (found-in p ts t)
 
-pub stands-at_token : (p : Token → Bool) (ts : List Token) (end : ℕ) (t : Token) → find p ts ≡ Some t → StandsIn ts end t.span.start × (p t ≡ true)
+pub stands-at_token : (place : ℕ) (ts : List Token) (end : ℕ) (t : Token) → first_behind place ts ≡ Some t → StandsIn ts end t.span.start × (place ≤ t.span.start)
 unfolding next_start
-stands-at_token p ts end t e = let f = found-in p ts t e in ((f.before, (t ∷ f.left), f.split, refl), f.passes)
+stands-at_token place ts end t e = let f = found-in (λ (u : Token). nat_le place u.span.start) ts t e in ((f.before, (t ∷ f.left), f.split, refl), leb-true place t.span.start f.passes)
 
 pub stands-at_end : (ts : List Token) (end : ℕ) → StandsIn ts end end
 unfolding next_start

@@ -1,8 +1,9 @@
 //! How far reading came in a file whose grammar is at fault, for the people who mend it.
 
 ghost use Rattle.std.specs.Prelude.{◌≡◌, ◌<◌, ◌≤◌, ◌^◌, length, IfOk};
+ghost use Rattle.std.specs.Option.{option_copied};
 ghost use Rattle.java_reader.specs.Reads.{IsGrammarAt};
-ghost use Rattle.java_reader.specs.Reach.{IsReached, StandsIn};
+ghost use Rattle.java_reader.specs.Reach.{IsReached, StandsIn, first_behind};
 ghost use Rattle.java_lexer.specs.Lexing.{Lexes};
 
 use crate::error::ReadError;
@@ -31,13 +32,20 @@ fn stop_of(alloc: Global, tokens: Items<Token>, end: u32) -> Result<u32, OutOfMe
     }
 }
 
-/// Where the first token begins that begins at the place or behind it, or the end.
+/// The first token that begins at the place or behind it.
+fn token_behind(tokens: &[Token], place: u32) -> Option<&Token>
+    ensures { option_copied result ≡ first_behind place tokens.now }
+{
+    tokens.iter().find(|token| token.span.start >= place)
+}
+
+/// Where that token begins, or the end.
 fn token_from(tokens: &[Token], place: u32, end: u32) -> u32
     requires { place ≤ end }
     ensures stands { StandsIn tokens.now end result }
     ensures behind { place ≤ result }
 {
-    match tokens.iter().find(|token| token.span.start >= place) {
+    match token_behind(tokens, place) {
         Some(token) => token.span.start,
         None => end,
     }

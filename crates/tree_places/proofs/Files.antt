@@ -1,5 +1,5 @@
 -- Whole files of alike tokens.
-use Rattle.std.proofs.Common.{◌≡◌, List, [], ◌∷◌, ap, ◌∙◌, sym, subst}
+use Rattle.std.proofs.Common.{◌≡◌, List, [], ap, ◌∙◌, sym, subst}
 use Rattle.std.proofs.lemmas.List.{append-nil}
 use Rattle.java_tree.specs.declared.token.Token.{Token}
 use Rattle.java_tree.specs.declared.file.FileTree.{FileTree}

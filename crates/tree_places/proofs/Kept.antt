@@ -1,5 +1,5 @@
 -- Trees that keep the tokens that spell them, wherever these stand.
-use Rattle.std.proofs.Common.{◌≡◌, ℕ, List, [], ◌∷◌, ◌++◌, ap, ◌∙◌, sym, subst}
+use Rattle.std.proofs.Common.{◌≡◌, ℕ, List, ◌++◌, ap, ◌∙◌, sym, subst}
 use Rattle.std.proofs.lemmas.List.{append_cancel_right}
 use Rattle.desk_base.specs.declared.span.Span.{Span}
 use Rattle.java_tree.specs.declared.token.Token.{Token}
@@ -10,7 +10,7 @@ use Rattle.tree_places.specs.Bare.{nowhere}
 use Rattle.tree_places.specs.Numbers.{numbered_span, placed_span}
 use Rattle.tree_places.proofs.Moves.{Moves}
 use Rattle.tree_places.proofs.Alike.{moved-alike}
-use Rattle.tree_places.proofs.Numbers.{Rising, in_order, in_order-alike, numbered-tokens, placed-in_order}
+use Rattle.tree_places.proofs.Numbers.{Rising, in_order-alike, numbered-tokens, placed-in_order}
 
 -- P spells trees that keep their tokens, moved trees of moved tokens, and one tree of some tokens with
 -- these behind them.

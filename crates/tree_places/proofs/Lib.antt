@@ -1,6 +1,7 @@
 pub mod Moves
 pub mod MovedExpr
 pub mod MovedStmt
+pub mod MovedAnnot
 pub mod MovedMember
 pub mod MovedFile
 pub mod Alike

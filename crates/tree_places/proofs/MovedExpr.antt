@@ -7,16 +7,16 @@ use Rattle.java_tree.specs.declared.expr.Expr.TheOpen.{Expr-F}
 use Rattle.java_tree.specs.declared.expr.Expr.TheFolds.{fold_out-Expr}
 use Rattle.java_tree.specs.declared.expr.Expr.TheViews.{out-roll-Expr}
 use Rattle.java_expressions.specs.Spelling.{Args, Smallest, Layered, Spells, sign_of, level_of}
-use Rattle.tree_places.specs.MovedExpr.{moved_layer, moved_expr}
+use Rattle.tree_places.specs.MovedExpr.{moved_expr_layer, moved_expr}
 use Rattle.tree_places.proofs.Moves.{Moves, moves-never, moves-mark, moves-sign, moves-lexeme, ◌then◌, moves-if, moves-or, moves-separated}
 
 module _ (place : Span → Span) where
-  pub out_moved : (e : Expr) → out-Expr (moved_expr place e) ≡ moved_layer place (map-Expr Expr Expr (moved_expr place) (out-Expr e))
+  pub out_moved : (e : Expr) → out-Expr (moved_expr place e) ≡ moved_expr_layer place (map-Expr Expr Expr (moved_expr place) (out-Expr e))
   unfolding moved_expr
-  out_moved e = ap out-Expr (fold_out-Expr Expr (λ f. roll-Expr (moved_layer place f)) e) ∙ out-roll-Expr (moved_layer place (map-Expr Expr Expr (moved_expr place) (out-Expr e)))
+  out_moved e = ap out-Expr (fold_out-Expr Expr (λ f. roll-Expr (moved_expr_layer place f)) e) ∙ out-roll-Expr (moved_expr_layer place (map-Expr Expr Expr (moved_expr place) (out-Expr e)))
 
   abbrev pub inward : Expr-F Expr → Expr-F Expr
-  inward f = moved_layer place (map-Expr Expr Expr (moved_expr place) f)
+  inward f = moved_expr_layer place (map-Expr Expr Expr (moved_expr place) f)
 
   smallest : (f : Expr-F Expr) → Moves place (Smallest f) (Smallest (inward f))
   smallest (Expr-F.Int w) = moves-if _ (moves-lexeme k.IntLiteral w)

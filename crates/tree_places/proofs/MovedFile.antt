@@ -1,10 +1,8 @@
 -- What tokens spell as a file, moved tokens spell as the moved file.
-use Rattle.std.proofs.Common.{◌≡◌, ℕ, List, [], ◌∷◌, Option, Some, None, ap, ◌∙◌, sym, subst}
+use Rattle.std.proofs.Common.{ℕ, List, Option, Some, None}
 use Rattle.std.specs.Option.{option_map}
-use Rattle.std.proofs.lemmas.List.{append-nil}
 use Rattle.desk_base.specs.declared.span.Span.{Span}
 use Rattle.java_tree.specs.declared.kind.Kind.TheVariants as k
-use Rattle.java_tree.specs.declared.token.Token.{Token}
 use Rattle.java_tree.specs.declared.member.MemberTree.{MemberTree}
 use Rattle.java_tree.specs.declared.member.MemberTree.TheVariants as member
 use Rattle.java_tree.specs.declared.file.TypeKind.{TypeKind}
@@ -14,11 +12,12 @@ use Rattle.java_tree.specs.declared.file.Import.{Import}
 use Rattle.java_tree.specs.declared.file.ClassTree.{ClassTree}
 use Rattle.java_tree.specs.declared.file.FileTree.{FileTree}
 use Rattle.java_heads.specs.Spelling.{Star, ImportSpells}
-use Rattle.java_reader.specs.Spelling.{SigMember, TypeMember, header_of, TypeSpells, PackagePart, FileSpells, Spells}
+use Rattle.java_reader.specs.Spelling.{SigMember, TypeMember, header_of, TypeSpells, PackagePart, FileSpells}
 use Rattle.tree_places.specs.MovedMember.{moved_member}
 use Rattle.tree_places.specs.MovedFile.{moved_package, moved_import, moved_class, moved_file}
-use Rattle.tree_places.proofs.Moves.{Moves, moves-never, moves-nothing, moves-mark, moves-sign, ◌then◌, moves-each}
-use Rattle.tree_places.proofs.MovedMember.{moves-qualified, moves-perhaps, moves-sig, moves-member, moves-header}
+use Rattle.tree_places.proofs.Moves.{Moves, moves-never, moves-nothing, moves-mark, moves-sign, ◌then◌, moves-each, moves-optional}
+use Rattle.tree_places.proofs.MovedAnnot.{moves-qualified}
+use Rattle.tree_places.proofs.MovedMember.{moves-sig, moves-member, moves-header}
 
 module _ (place : Span → Span) where
   moves-sig_member : (m : MemberTree) → Moves place (SigMember m) (SigMember (moved_member place m))
@@ -44,7 +43,7 @@ module _ (place : Span → Span) where
   moves-star (Some at) = moves-mark k.Dot then moves-sign k.Times at
 
   moves-import : (i : Import) → Moves place (ImportSpells i) (ImportSpells (moved_import place i))
-  moves-import i = moves-mark k.Import then moves-perhaps place k.Static i.static_word then moves-qualified place i.name then moves-star i.star then moves-mark k.Semicolon
+  moves-import i = moves-mark k.Import then moves-optional place _ _ (moves-sign k.Static) i.static_word then moves-qualified place i.name then moves-star i.star then moves-mark k.Semicolon
 
   pub moves-file : (f : FileTree) → Moves place (FileSpells f) (FileSpells (moved_file place f))
   moves-file f = moves-package f.«package» then moves-each (moved_import place) ImportSpells ImportSpells moves-import f.imports then moves-each (moved_class place) TypeSpells TypeSpells moves-type f.types

@@ -19,10 +19,10 @@ use Rattle.java_tree.specs.declared.stmt.BlockItem.TheOpen.{Stmt-F, BlockItem-F,
 use Rattle.java_tree.specs.declared.stmt.BlockItem.TheFolds.{fold_out-Block, fold_out-Stmt, fold_out-BlockItem}
 use Rattle.java_tree.specs.declared.stmt.BlockItem.TheViews.{out-roll-Block, out-roll-Stmt, out-roll-BlockItem}
 use Rattle.java_phrases.specs.Phrase.{Phrase}
-use Rattle.java_statements.specs.Spelling.{sign_of_assign, sign_of_step, start_name, is_call, is_new, TargetBy, TargetSpells, ActionSpells, LocalSpells, Condition, FirstSpells, ForHead, MonitorSpells, DeclarationSpells, ItemSpells, BlockBy, StmtBy, StmtSpells, BlockSpells}
-use Rattle.java_expressions.specs.Spelling.{thread_name}
+use Rattle.java_phrases.specs.Texts.{thread_name}
+use Rattle.java_statements.specs.Spelling.{sign_of_assign, sign_of_step, start_name, is_call, is_new, TargetBy, TargetSpells, ActionSpells, LocalSpells, Condition, FirstSpells, ForHeadSpells, MonitorSpells, DeclarationSpells, ItemSpells, BlockBy, StmtBy, StmtSpells, BlockSpells}
 use Rattle.tree_places.specs.MovedExpr.{moved_expr}
-use Rattle.tree_places.specs.MovedStmt.{moved_action, moved_local, moved_first, moved_monitor, item_layer, stmt_layer, block_layer, moved_item, moved_stmt, moved_block}
+use Rattle.tree_places.specs.MovedStmt.{moved_action, moved_local, moved_first, moved_monitor, moved_item_layer, moved_stmt_layer, moved_block_layer, moved_item, moved_stmt, moved_block}
 use Rattle.tree_places.proofs.Moves.{Moves, moves-never, moves-nothing, moves-mark, moves-sign, moves-lexeme, moves-ty, ◌then◌, moves-if, moves-when, moves-optional, moves-named, moves-each}
 use Rattle.tree_places.proofs.MovedExpr.{out_moved, inward, moves-expr}
 
@@ -30,22 +30,22 @@ module _ (place : Span → Span) where
   -- ---- what trees are made of, once they are moved
 
   abbrev items_by : BlockItem-F BlockItem Stmt Block → BlockItem
-  items_by f = roll-BlockItem (item_layer place f)
+  items_by f = roll-BlockItem (moved_item_layer place f)
 
   abbrev stmts_by : Stmt-F BlockItem Stmt Block → Stmt
-  stmts_by f = roll-Stmt (stmt_layer place f)
+  stmts_by f = roll-Stmt (moved_stmt_layer place f)
 
   abbrev blocks_by : Block-F BlockItem Stmt Block → Block
-  blocks_by f = roll-Block (block_layer place f)
+  blocks_by f = roll-Block (moved_block_layer place f)
 
   abbrev item_inward : BlockItem-F BlockItem Stmt Block → BlockItem-F BlockItem Stmt Block
-  item_inward f = item_layer place (map-BlockItem BlockItem Stmt Block BlockItem Stmt Block (moved_item place) (moved_stmt place) (moved_block place) f)
+  item_inward f = moved_item_layer place (map-BlockItem BlockItem Stmt Block BlockItem Stmt Block (moved_item place) (moved_stmt place) (moved_block place) f)
 
   abbrev stmt_inward : Stmt-F BlockItem Stmt Block → Stmt-F BlockItem Stmt Block
-  stmt_inward f = stmt_layer place (map-Stmt BlockItem Stmt Block BlockItem Stmt Block (moved_item place) (moved_stmt place) (moved_block place) f)
+  stmt_inward f = moved_stmt_layer place (map-Stmt BlockItem Stmt Block BlockItem Stmt Block (moved_item place) (moved_stmt place) (moved_block place) f)
 
   abbrev block_inward : Block-F BlockItem Stmt Block → Block-F BlockItem Stmt Block
-  block_inward f = block_layer place (map-Block BlockItem Stmt Block BlockItem Stmt Block (moved_item place) (moved_stmt place) (moved_block place) f)
+  block_inward f = moved_block_layer place (map-Block BlockItem Stmt Block BlockItem Stmt Block (moved_item place) (moved_stmt place) (moved_block place) f)
 
   pub out_item : (i : BlockItem) → out-BlockItem (moved_item place i) ≡ item_inward (out-BlockItem i)
   unfolding moved_item moved_stmt moved_block
@@ -106,9 +106,9 @@ module _ (place : Span → Span) where
   moves-first room (first.Local local) = moves-local room local
   moves-first room (first.Action does) = moves-action room does
 
-  moves-head : (room : ℕ) (f : ForFirst) (test : Option Expr) (last : Option Action)
-      → Moves place (ForHead room f test last) (ForHead room (moved_first place f) (option_map (moved_expr place) test) (option_map (moved_action place) last))
-  moves-head room f test last =
+  moves-for_head : (room : ℕ) (f : ForFirst) (test : Option Expr) (last : Option Action)
+      → Moves place (ForHeadSpells room f test last) (ForHeadSpells room (moved_first place f) (option_map (moved_expr place) test) (option_map (moved_action place) last))
+  moves-for_head room f test last =
       moves-mark k.LParen then moves-first room f then moves-mark k.Semicolon then moves-optional (moved_expr place) _ _ (moves-expr place room 1) test then moves-mark k.Semicolon
       then moves-optional (moved_action place) _ _ (moves-action room) last then moves-mark k.RParen
 
@@ -153,7 +153,7 @@ module _ (place : Span → Span) where
     stmt_by blocks closed (Stmt-F.If at condition does None) = moves-if _ (moves-sign k.If at then moves-condition room condition then inner false does)
     stmt_by blocks closed (Stmt-F.If at condition does (Some other)) = moves-sign k.If at then moves-condition room condition then inner true does then moves-mark k.Else then inner closed other
     stmt_by blocks closed (Stmt-F.While at condition does) = moves-sign k.While at then moves-condition room condition then inner closed does
-    stmt_by blocks closed (Stmt-F.For at start test last does) = moves-sign k.For at then moves-head room start test last then inner closed does
+    stmt_by blocks closed (Stmt-F.For at start test last does) = moves-sign k.For at then moves-for_head room start test last then inner closed does
     stmt_by blocks closed (Stmt-F.Sync at held block) = moves-sign k.Synchronized at then (moves-mark k.LParen then moves-monitor room held then moves-mark k.RParen) then blocks block
     stmt_by blocks closed (Stmt-F.Return at value end) = moves-sign k.Return at then moves-optional (moved_expr place) _ _ (moves-expr place room 1) value then moves-sign k.Semicolon end
 

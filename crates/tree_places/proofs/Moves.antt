@@ -9,9 +9,8 @@ use Rattle.java_tree.specs.declared.token.Token.{Token}
 use Rattle.java_tree.specs.declared.token.Lexeme.{Lexeme}
 use Rattle.java_tree.specs.declared.member.Ty.{Ty}
 use Rattle.java_tree.specs.declared.member.Ty.TheVariants as tree
-use Rattle.java_phrases.specs.Phrase.{Phrase, Nothing, ◌⨾◌, ◌⊢◌, ◌∣◌, Never, Mark, Sign, Spelled, Each, Separated}
+use Rattle.java_phrases.specs.Phrase.{Phrase, Nothing, ◌⨾◌, ◌⊢◌, ◌∣◌, Never, Mark, Sign, Spelled, Named, Optional, Each, Separated}
 use Rattle.java_phrases.specs.Types.{TySpells}
-use Rattle.java_statements.specs.Spelling.{Named, Optional}
 use Rattle.tree_places.specs.Moved.{moved_token, moved_lexeme, moved_tokens, moved_ty}
 
 -- Where the first phrase takes some tokens, the second one takes these tokens moved, whatever follows.
@@ -20,6 +19,7 @@ pub record TakesMoved (place : Span → Span) (Q : Phrase) (ts rest : List Token
   pub is : ts ≡ own ++ rest
   pub anywhere : (other : List Token) → Q (moved_tokens place own ++ other) other
 
+-- What P spells, Q spells where its tokens are moved.
 pub record Moves (place : Span → Span) (P Q : Phrase) : Type 0 where
   pub moves : (ts rest : List Token) → P ts rest → TakesMoved place Q ts rest
 

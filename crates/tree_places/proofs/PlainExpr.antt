@@ -4,7 +4,7 @@ use Rattle.desk_base.specs.declared.span.Span.{Span}
 use Rattle.java_tree.specs.declared.expr.Expr.{Expr, roll-Expr, map-Expr}
 use Rattle.java_tree.specs.declared.expr.Expr.TheOpen.{Expr-F}
 use Rattle.java_tree.specs.declared.expr.Expr.TheFolds.{ind-Expr, fold-roll-Expr}
-use Rattle.tree_places.specs.MovedExpr.{moved_layer, moved_expr}
+use Rattle.tree_places.specs.MovedExpr.{moved_expr_layer, moved_expr}
 use Rattle.tree_places.specs.PlainExpr.{PlainExpr, exprs}
 use Rattle.tree_places.specs.PlainExpr as p
 use Rattle.tree_places.specs.Plain.{plain_lexeme, expr_step, plain_expr}
@@ -22,7 +22,7 @@ module _ (move : Span → Span) (number : Span → ℕ) where
     all_same (s ∷ ss) = ap₂ p.expr (same s) (all_same ss)
 
     layer_same : (y : Expr-F S)
-        → expr_step number (map-Expr Expr PlainExpr (plain_expr number) (moved_layer move (map-Expr Expr Expr (moved_expr move) (map-Expr S Expr get y))))
+        → expr_step number (map-Expr Expr PlainExpr (plain_expr number) (moved_expr_layer move (map-Expr Expr Expr (moved_expr move) (map-Expr S Expr get y))))
         ≡ expr_step moved_number (map-Expr Expr PlainExpr (plain_expr moved_number) (map-Expr S Expr get y))
     layer_same (Expr-F.Call w args closing) = ap (λ l. p.Call (plain_lexeme moved_number w) l (moved_number closing)) (all_same args)
     layer_same (Expr-F.New at w args closing) = ap (λ l. p.New (moved_number at) (plain_lexeme moved_number w) l (moved_number closing)) (all_same args)
@@ -37,8 +37,8 @@ module _ (move : Span → Span) (number : Span → ℕ) where
   roll_same : {S : Type 0} (get : S → Expr) (same : (s : S) → Same (get s)) (y : Expr-F S) → Same (roll-Expr (map-Expr S Expr get y))
   unfolding plain_expr moved_expr
   roll_same get same y =
-      ap (plain_expr number) (fold-roll-Expr Expr (λ f. roll-Expr (moved_layer move f)) (map-Expr _ Expr get y))
-      ∙ fold-roll-Expr PlainExpr (expr_step number) (moved_layer move (map-Expr Expr Expr (moved_expr move) (map-Expr _ Expr get y)))
+      ap (plain_expr number) (fold-roll-Expr Expr (λ f. roll-Expr (moved_expr_layer move f)) (map-Expr _ Expr get y))
+      ∙ fold-roll-Expr PlainExpr (expr_step number) (moved_expr_layer move (map-Expr Expr Expr (moved_expr move) (map-Expr _ Expr get y)))
       ∙ layer_same get same y
       ∙ sym (fold-roll-Expr PlainExpr (expr_step moved_number) (map-Expr _ Expr get y))
 

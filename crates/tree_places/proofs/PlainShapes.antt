@@ -17,7 +17,7 @@ use Rattle.java_tree.specs.declared.stmt.Stmt.TheVariants as stmt
 use Rattle.java_tree.specs.declared.stmt.Block.{Block, roll-Block}
 use Rattle.java_tree.specs.declared.stmt.BlockItem.{BlockItem}
 use Rattle.java_tree.specs.declared.stmt.BlockItem.TheVariants as item
-use Rattle.java_tree.specs.declared.stmt.BlockItem.TheOpen.{Stmt-F, BlockItem-F, Block-F}
+use Rattle.java_tree.specs.declared.stmt.BlockItem.TheOpen.{Stmt-F, BlockItem-F}
 use Rattle.java_tree.specs.declared.stmt.BlockItem.TheFolds.{fold-roll-Block, fold-roll-Stmt, fold-roll-BlockItem}
 use Rattle.tree_places.specs.PlainExpr.{PlainExpr, exprs}
 use Rattle.tree_places.specs.PlainExpr as p

@@ -19,7 +19,7 @@ use Rattle.java_tree.specs.declared.stmt.BlockItem.TheOpen.{Stmt-F, BlockItem-F,
 use Rattle.java_tree.specs.declared.stmt.BlockItem.TheFolds.{ind-Block, fold-roll-Block, fold-roll-Stmt, fold-roll-BlockItem}
 use Rattle.tree_places.specs.Moved.{moved_ty}
 use Rattle.tree_places.specs.MovedExpr.{moved_expr}
-use Rattle.tree_places.specs.MovedStmt.{moved_action, moved_local, moved_first, moved_monitor, item_layer, stmt_layer, block_layer, moved_item, moved_stmt, moved_block}
+use Rattle.tree_places.specs.MovedStmt.{moved_action, moved_local, moved_first, moved_monitor, moved_item_layer, moved_stmt_layer, moved_block_layer, moved_item, moved_stmt, moved_block}
 use Rattle.tree_places.specs.PlainStmt.{PlainStmt, stmts}
 use Rattle.tree_places.specs.PlainStmt as p
 use Rattle.tree_places.specs.Plain.{plain_expr, plain_ty, plain_action, plain_local, plain_first, plain_monitor, item_step, stmt_step, block_step, plain_item, plain_stmt, plain_block}
@@ -89,13 +89,13 @@ module _ (move : Span → Span) (number : Span → ℕ) where
     all_same (i ∷ is) = ap₂ p.stmt (i_same i) (all_same is)
 
     item_same : (y : BlockItem-F I S B)
-        → item_step number (map-BlockItem BlockItem Stmt Block PlainStmt PlainStmt PlainStmt (plain_item number) (plain_stmt number) (plain_block number) (item_layer move (map-BlockItem BlockItem Stmt Block BlockItem Stmt Block (moved_item move) (moved_stmt move) (moved_block move) (items_got y))))
+        → item_step number (map-BlockItem BlockItem Stmt Block PlainStmt PlainStmt PlainStmt (plain_item number) (plain_stmt number) (plain_block number) (moved_item_layer move (map-BlockItem BlockItem Stmt Block BlockItem Stmt Block (moved_item move) (moved_stmt move) (moved_block move) (items_got y))))
         ≡ item_step moved_number (map-BlockItem BlockItem Stmt Block PlainStmt PlainStmt PlainStmt (plain_item moved_number) (plain_stmt moved_number) (plain_block moved_number) (items_got y))
     item_same (BlockItem-F.Local l at) = ap (λ d. p.Local d (moved_number at)) (same_local l)
     item_same (BlockItem-F.Stmt s) = s_same s
 
     stmt_same : (y : Stmt-F I S B)
-        → stmt_step number (map-Stmt BlockItem Stmt Block PlainStmt PlainStmt PlainStmt (plain_item number) (plain_stmt number) (plain_block number) (stmt_layer move (map-Stmt BlockItem Stmt Block BlockItem Stmt Block (moved_item move) (moved_stmt move) (moved_block move) (stmts_got y))))
+        → stmt_step number (map-Stmt BlockItem Stmt Block PlainStmt PlainStmt PlainStmt (plain_item number) (plain_stmt number) (plain_block number) (moved_stmt_layer move (map-Stmt BlockItem Stmt Block BlockItem Stmt Block (moved_item move) (moved_stmt move) (moved_block move) (stmts_got y))))
         ≡ stmt_step moved_number (map-Stmt BlockItem Stmt Block PlainStmt PlainStmt PlainStmt (plain_item moved_number) (plain_stmt moved_number) (plain_block moved_number) (stmts_got y))
     stmt_same (Stmt-F.Block b) = b_same b
     stmt_same (Stmt-F.Empty at) = refl
@@ -115,24 +115,24 @@ module _ (move : Span → Span) (number : Span → ℕ) where
     item_roll : (y : BlockItem-F I S B) → SameItem (roll-BlockItem (items_got y))
     unfolding plain_item plain_stmt plain_block moved_item moved_stmt moved_block
     item_roll y =
-        ap (plain_item number) (fold-roll-BlockItem BlockItem Stmt Block (λ f. roll-BlockItem (item_layer move f)) (λ f. roll-Stmt (stmt_layer move f)) (λ f. roll-Block (block_layer move f)) (items_got y))
-        ∙ fold-roll-BlockItem PlainStmt PlainStmt PlainStmt (item_step number) (stmt_step number) (block_step number) (item_layer move (map-BlockItem BlockItem Stmt Block BlockItem Stmt Block (moved_item move) (moved_stmt move) (moved_block move) (items_got y)))
+        ap (plain_item number) (fold-roll-BlockItem BlockItem Stmt Block (λ f. roll-BlockItem (moved_item_layer move f)) (λ f. roll-Stmt (moved_stmt_layer move f)) (λ f. roll-Block (moved_block_layer move f)) (items_got y))
+        ∙ fold-roll-BlockItem PlainStmt PlainStmt PlainStmt (item_step number) (stmt_step number) (block_step number) (moved_item_layer move (map-BlockItem BlockItem Stmt Block BlockItem Stmt Block (moved_item move) (moved_stmt move) (moved_block move) (items_got y)))
         ∙ item_same y
         ∙ sym (fold-roll-BlockItem PlainStmt PlainStmt PlainStmt (item_step moved_number) (stmt_step moved_number) (block_step moved_number) (items_got y))
 
     stmt_roll : (y : Stmt-F I S B) → SameStmt (roll-Stmt (stmts_got y))
     unfolding plain_item plain_stmt plain_block moved_item moved_stmt moved_block
     stmt_roll y =
-        ap (plain_stmt number) (fold-roll-Stmt BlockItem Stmt Block (λ f. roll-BlockItem (item_layer move f)) (λ f. roll-Stmt (stmt_layer move f)) (λ f. roll-Block (block_layer move f)) (stmts_got y))
-        ∙ fold-roll-Stmt PlainStmt PlainStmt PlainStmt (item_step number) (stmt_step number) (block_step number) (stmt_layer move (map-Stmt BlockItem Stmt Block BlockItem Stmt Block (moved_item move) (moved_stmt move) (moved_block move) (stmts_got y)))
+        ap (plain_stmt number) (fold-roll-Stmt BlockItem Stmt Block (λ f. roll-BlockItem (moved_item_layer move f)) (λ f. roll-Stmt (moved_stmt_layer move f)) (λ f. roll-Block (moved_block_layer move f)) (stmts_got y))
+        ∙ fold-roll-Stmt PlainStmt PlainStmt PlainStmt (item_step number) (stmt_step number) (block_step number) (moved_stmt_layer move (map-Stmt BlockItem Stmt Block BlockItem Stmt Block (moved_item move) (moved_stmt move) (moved_block move) (stmts_got y)))
         ∙ stmt_same y
         ∙ sym (fold-roll-Stmt PlainStmt PlainStmt PlainStmt (item_step moved_number) (stmt_step moved_number) (block_step moved_number) (stmts_got y))
 
     block_roll : (y : Block-F I S B) → SameBlock (roll-Block (blocks_got y))
     unfolding plain_item plain_stmt plain_block moved_item moved_stmt moved_block
     block_roll y =
-        ap (plain_block number) (fold-roll-Block BlockItem Stmt Block (λ f. roll-BlockItem (item_layer move f)) (λ f. roll-Stmt (stmt_layer move f)) (λ f. roll-Block (block_layer move f)) (blocks_got y))
-        ∙ fold-roll-Block PlainStmt PlainStmt PlainStmt (item_step number) (stmt_step number) (block_step number) (block_layer move (map-Block BlockItem Stmt Block BlockItem Stmt Block (moved_item move) (moved_stmt move) (moved_block move) (blocks_got y)))
+        ap (plain_block number) (fold-roll-Block BlockItem Stmt Block (λ f. roll-BlockItem (moved_item_layer move f)) (λ f. roll-Stmt (moved_stmt_layer move f)) (λ f. roll-Block (moved_block_layer move f)) (blocks_got y))
+        ∙ fold-roll-Block PlainStmt PlainStmt PlainStmt (item_step number) (stmt_step number) (block_step number) (moved_block_layer move (map-Block BlockItem Stmt Block BlockItem Stmt Block (moved_item move) (moved_stmt move) (moved_block move) (blocks_got y)))
         ∙ ap (λ l. p.Block (moved_number y.opening) l (moved_number y.closing)) (all_same y.items)
         ∙ sym (fold-roll-Block PlainStmt PlainStmt PlainStmt (item_step moved_number) (stmt_step moved_number) (block_step moved_number) (blocks_got y))
 

@@ -1,5 +1,5 @@
 -- The number of a place, found by halving.
-use Rattle.std.proofs.Common.{◌≡◌, ◌≤◌, ◌<◌, ◌+◌, cond, ℕ, zero, suc, Bool, true, false, List, [], ◌∷◌, length, nat_lt, nat_le, count_by, IsTrue, ap, ◌∙◌, sym, arith}
+use Rattle.std.proofs.Common.{◌≡◌, ◌≤◌, ◌+◌, cond, ℕ, zero, suc, Bool, true, false, List, [], ◌∷◌, length, nat_lt, nat_le, IsTrue, ap, ◌∙◌, sym, arith}
 use Rattle.std.specs.List.{IsAllAdjacentAnswer}
 use Rattle.std.specs.List.Sorted.{IsNonDecreasingBy, IsPartitionPoint}
 use Rattle.std.proofs.lemmas.Bool.{leb-true}

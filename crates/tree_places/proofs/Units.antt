@@ -2,6 +2,7 @@
 use Rattle.std.proofs.Common.{◌≡◌, ◌≤◌, ◌+◌, ℕ, zero, suc, List, [], ◌∷◌, length, ap, ◌∙◌, sym, subst, arith}
 use Rattle.std.specs.List.{Contains}
 use Rattle.std.proofs.Math.Nat.{le_refl}
+use Rattle.desk_base.specs.declared.span.Span.{Span}
 use Rattle.java_tree.specs.declared.token.Token.{Token}
 use Rattle.java_tree.specs.declared.member.MemberTree.{MemberTree}
 use Rattle.java_tree.specs.declared.file.TypeKind.{TypeKind}
@@ -16,7 +17,8 @@ use Rattle.java_members.specs.Spelling.{tokens_of}
 use Rattle.java_reader.specs.Alike.{Alike}
 use Rattle.java_reader.specs.Places.{MembersFollow, TypeFollows, TypesFollow}
 use Rattle.java_reader.specs.Reads.{Reads}
-use Rattle.java_reader.specs.Spelling.{TypeMember, header_of, TypeSpells}
+use Rattle.java_reader.specs.Spelling.{TypeMember, TypeSpells}
+use Rattle.tree_places.specs.Moved.{moved_tokens}
 use Rattle.tree_places.specs.MovedMember.{moved_member, moved_header}
 use Rattle.tree_places.specs.Bare.{nowhere, bare_member, bare_header}
 use Rattle.tree_places.specs.Numbers.{numbered_member, numbered_header, placed_member, placed_header}
@@ -119,7 +121,15 @@ placed-header follow one text h has =
     let a = header_stands follow text h has in
     kept.placed HeaderAlone header_tokens moved_header Braced (headers_keep one) h a.ts a.rest a.from a.behind a.spelled a.rising
 
--- ---- units without their places
+-- ---- units whose places are put elsewhere
+
+pub moved_members : (p q : Span → Span) (kind : TypeKind) (name : List ℕ) (m n : MemberTree) (ts rest us left : List Token) → TypeMember kind name m ts rest → TypeMember kind name n us left
+    → moved_tokens p (tokens_of m) ≡ moved_tokens q (tokens_of n) → moved_member p m ≡ moved_member q n
+moved_members p q kind name = kept.same (TypeMember kind name) tokens_of moved_member Anything (members_keep kind name) p q
+
+pub moved_headers : OneTree HeaderSpells → (p q : Span → Span) (g h : Header) (ts rest us left : List Token) → HeaderSpells g ts rest → HeaderSpells h us left
+    → moved_tokens p g.tokens ≡ moved_tokens q h.tokens → moved_header p g ≡ moved_header q h
+moved_headers one p q g h ts rest us left (mid, s, brace) (end, t, other) = kept.same HeaderAlone header_tokens moved_header Braced (headers_keep one) p q g h ts mid us end s t
 
 pub alike_members : (kind : TypeKind) (name : List ℕ) (m n : MemberTree) (ts rest us left : List Token) → TypeMember kind name m ts rest → TypeMember kind name n us left
     → Alike (tokens_of m) (tokens_of n) → bare_member m ≡ bare_member n

@@ -1,6 +1,7 @@
 pub mod Moved
 pub mod MovedExpr
 pub mod MovedStmt
+pub mod MovedAnnot
 pub mod MovedMember
 pub mod MovedFile
 pub mod Bare

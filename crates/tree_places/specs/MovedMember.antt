@@ -1,13 +1,8 @@
--- Annotations, modifiers, members and headers whose spans are put elsewhere, and nothing else.
+-- Modifiers, members and headers whose spans are put elsewhere, and nothing else.
 use Rattle.std.specs.Prelude.{List, map}
 use Rattle.std.specs.Option.{option_map}
 use Rattle.desk_base.specs.declared.span.Span.{Span}
 use Rattle.java_tree.specs.declared.token.Lexeme.{Lexeme}
-use Rattle.java_tree.specs.declared.member.Annot.{Annot, roll-Annot}
-use Rattle.java_tree.specs.declared.member.Elements.{Elements, roll-Elements}
-use Rattle.java_tree.specs.declared.member.Elem.{Elem, roll-Elem}
-use Rattle.java_tree.specs.declared.member.Elem.TheOpen.{Elements-F, Elem-F, Annot-F}
-use Rattle.java_tree.specs.declared.member.Elem.TheFolds.{fold-Annot, fold-Elements, fold-Elem}
 use Rattle.java_tree.specs.declared.member.Mod.{Mod}
 use Rattle.java_tree.specs.declared.member.Mod.TheVariants as modifier
 use Rattle.java_tree.specs.declared.member.Param.{Param}
@@ -23,30 +18,7 @@ use Rattle.java_tree.specs.declared.member.MemberTree.TheVariants as member
 use Rattle.java_heads.specs.declared.header.Header.{Header}
 use Rattle.tree_places.specs.Moved.{moved_lexeme, moved_lexemes, moved_tokens, moved_ty}
 use Rattle.tree_places.specs.MovedStmt.{moved_block}
-
--- ---- annotations
-
-abbrev pub annot_layer : (Span → Span) → Annot-F Elem Elements Annot → Annot-F Elem Elements Annot
-annot_layer place a = record { at = place a.at; name = moved_lexemes place a.name; elements = a.elements }
-
-abbrev pub elements_layer : (Span → Span) → Elements-F Elem Elements Annot → Elements-F Elem Elements Annot
-elements_layer place Elements-F.Bare = Elements-F.Bare
-elements_layer place (Elements-F.Empty opening closing) = Elements-F.Empty (place opening) (place closing)
-elements_layer place (Elements-F.One opening value elem closing) = Elements-F.One (place opening) (option_map (moved_lexeme place) value) elem (place closing)
-elements_layer place (Elements-F.Many opening value elems closing) = Elements-F.Many (place opening) (option_map (moved_lexeme place) value) elems (place closing)
-
-abbrev pub elem_layer : (Span → Span) → Elem-F Elem Elements Annot → Elem-F Elem Elements Annot
-elem_layer place (Elem-F.Str text) = Elem-F.Str (moved_lexeme place text)
-elem_layer place (Elem-F.Annot annot) = Elem-F.Annot annot
-
-unfoldable pub moved_elem : (Span → Span) → Elem → Elem
-moved_elem place = fold-Elem Elem Elements Annot (λ f. roll-Elem (elem_layer place f)) (λ f. roll-Elements (elements_layer place f)) (λ f. roll-Annot (annot_layer place f))
-
-unfoldable pub moved_elements : (Span → Span) → Elements → Elements
-moved_elements place = fold-Elements Elem Elements Annot (λ f. roll-Elem (elem_layer place f)) (λ f. roll-Elements (elements_layer place f)) (λ f. roll-Annot (annot_layer place f))
-
-unfoldable pub moved_annot : (Span → Span) → Annot → Annot
-moved_annot place = fold-Annot Elem Elements Annot (λ f. roll-Elem (elem_layer place f)) (λ f. roll-Elements (elements_layer place f)) (λ f. roll-Annot (annot_layer place f))
+use Rattle.tree_places.specs.MovedAnnot.{moved_annot}
 
 -- ---- parts of members
 

@@ -40,29 +40,29 @@ moved_monitor place (monitor.Class name at) = monitor.Class (moved_lexeme place 
 
 -- ---- one layer, whose inner statements are as they are to be
 
-abbrev pub item_layer : (Span → Span) → BlockItem-F BlockItem Stmt Block → BlockItem-F BlockItem Stmt Block
-item_layer place (BlockItem-F.Local local at) = BlockItem-F.Local (moved_local place local) (place at)
-item_layer place (BlockItem-F.Stmt stmt) = BlockItem-F.Stmt stmt
+abbrev pub moved_item_layer : (Span → Span) → BlockItem-F BlockItem Stmt Block → BlockItem-F BlockItem Stmt Block
+moved_item_layer place (BlockItem-F.Local local at) = BlockItem-F.Local (moved_local place local) (place at)
+moved_item_layer place (BlockItem-F.Stmt stmt) = BlockItem-F.Stmt stmt
 
-abbrev pub stmt_layer : (Span → Span) → Stmt-F BlockItem Stmt Block → Stmt-F BlockItem Stmt Block
-stmt_layer place (Stmt-F.Block block) = Stmt-F.Block block
-stmt_layer place (Stmt-F.Empty at) = Stmt-F.Empty (place at)
-stmt_layer place (Stmt-F.Action does at) = Stmt-F.Action (moved_action place does) (place at)
-stmt_layer place (Stmt-F.If at condition does other) = Stmt-F.If (place at) (moved_expr place condition) does other
-stmt_layer place (Stmt-F.While at condition does) = Stmt-F.While (place at) (moved_expr place condition) does
-stmt_layer place (Stmt-F.For at first test last does) =
+abbrev pub moved_stmt_layer : (Span → Span) → Stmt-F BlockItem Stmt Block → Stmt-F BlockItem Stmt Block
+moved_stmt_layer place (Stmt-F.Block block) = Stmt-F.Block block
+moved_stmt_layer place (Stmt-F.Empty at) = Stmt-F.Empty (place at)
+moved_stmt_layer place (Stmt-F.Action does at) = Stmt-F.Action (moved_action place does) (place at)
+moved_stmt_layer place (Stmt-F.If at condition does other) = Stmt-F.If (place at) (moved_expr place condition) does other
+moved_stmt_layer place (Stmt-F.While at condition does) = Stmt-F.While (place at) (moved_expr place condition) does
+moved_stmt_layer place (Stmt-F.For at first test last does) =
     Stmt-F.For (place at) (moved_first place first) (option_map (moved_expr place) test) (option_map (moved_action place) last) does
-stmt_layer place (Stmt-F.Sync at held block) = Stmt-F.Sync (place at) (moved_monitor place held) block
-stmt_layer place (Stmt-F.Return at value end) = Stmt-F.Return (place at) (option_map (moved_expr place) value) (place end)
+moved_stmt_layer place (Stmt-F.Sync at held block) = Stmt-F.Sync (place at) (moved_monitor place held) block
+moved_stmt_layer place (Stmt-F.Return at value end) = Stmt-F.Return (place at) (option_map (moved_expr place) value) (place end)
 
-abbrev pub block_layer : (Span → Span) → Block-F BlockItem Stmt Block → Block-F BlockItem Stmt Block
-block_layer place b = record { opening = place b.opening; items = b.items; closing = place b.closing }
+abbrev pub moved_block_layer : (Span → Span) → Block-F BlockItem Stmt Block → Block-F BlockItem Stmt Block
+moved_block_layer place b = record { opening = place b.opening; items = b.items; closing = place b.closing }
 
 unfoldable pub moved_item : (Span → Span) → BlockItem → BlockItem
-moved_item place = fold-BlockItem BlockItem Stmt Block (λ f. roll-BlockItem (item_layer place f)) (λ f. roll-Stmt (stmt_layer place f)) (λ f. roll-Block (block_layer place f))
+moved_item place = fold-BlockItem BlockItem Stmt Block (λ f. roll-BlockItem (moved_item_layer place f)) (λ f. roll-Stmt (moved_stmt_layer place f)) (λ f. roll-Block (moved_block_layer place f))
 
 unfoldable pub moved_stmt : (Span → Span) → Stmt → Stmt
-moved_stmt place = fold-Stmt BlockItem Stmt Block (λ f. roll-BlockItem (item_layer place f)) (λ f. roll-Stmt (stmt_layer place f)) (λ f. roll-Block (block_layer place f))
+moved_stmt place = fold-Stmt BlockItem Stmt Block (λ f. roll-BlockItem (moved_item_layer place f)) (λ f. roll-Stmt (moved_stmt_layer place f)) (λ f. roll-Block (moved_block_layer place f))
 
 unfoldable pub moved_block : (Span → Span) → Block → Block
-moved_block place = fold-Block BlockItem Stmt Block (λ f. roll-BlockItem (item_layer place f)) (λ f. roll-Stmt (stmt_layer place f)) (λ f. roll-Block (block_layer place f))
+moved_block place = fold-Block BlockItem Stmt Block (λ f. roll-BlockItem (moved_item_layer place f)) (λ f. roll-Stmt (moved_stmt_layer place f)) (λ f. roll-Block (moved_block_layer place f))

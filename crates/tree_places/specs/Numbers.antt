@@ -1,7 +1,6 @@
 -- Places as numbers of tokens, and trees with such numbers for their places.
-use Rattle.std.specs.Prelude.{ℕ, List, nat_lt, count_by, map, unwrap_or}
+use Rattle.std.specs.Prelude.{ℕ, List, nat_lt, count_by, unwrap_or}
 use Rattle.std.specs.List.{slice_get}
-use Rattle.std.specs.List.Sorted.{IsStrictlyIncreasing}
 use Rattle.std.specs.Option.{option_map}
 use Rattle.desk_base.specs.declared.span.Span.{Span}
 use Rattle.java_tree.specs.declared.token.Token.{Token}
@@ -49,9 +48,3 @@ placed_member tokens = moved_member (placed_span tokens)
 
 abbrev pub placed_header : List Token → Header → Header
 placed_header tokens = moved_header (placed_span tokens)
-
--- ---- tokens in order
-
--- each token begins behind the beginning of the one before it
-abbrev pub IsRising : List Token → Type 0
-IsRising tokens = IsStrictlyIncreasing (map (λ (t : Token). t.span.start) tokens)

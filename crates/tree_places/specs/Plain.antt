@@ -33,6 +33,7 @@ use Rattle.tree_places.specs.PlainStmt as s
 abbrev pub plain_lexeme : (Span → ℕ) → Lexeme → PlainLexeme
 plain_lexeme number w = record { text = w.text; at = number w.span }
 
+-- one layer, whose inner expressions are plain already
 abbrev pub expr_step : (Span → ℕ) → Expr-F PlainExpr → PlainExpr
 expr_step number (Expr-F.Int w) = e.Int (plain_lexeme number w)
 expr_step number (Expr-F.Str w) = e.Str (plain_lexeme number w)
@@ -80,7 +81,7 @@ abbrev pub plain_monitor : (Span → ℕ) → Monitor → PlainMonitor
 plain_monitor number (monitor.Expr held) = s.Object (plain_expr number held)
 plain_monitor number (monitor.Class w at) = s.Class (plain_lexeme number w) (number at)
 
--- ---- statements
+-- ---- statements: one layer each, whose inner statements are plain already
 
 abbrev pub item_step : (Span → ℕ) → BlockItem-F PlainStmt PlainStmt PlainStmt → PlainStmt
 item_step number (BlockItem-F.Local l at) = s.Local (plain_local number l) (number at)
@@ -111,6 +112,7 @@ plain_block number = fold-Block PlainStmt PlainStmt PlainStmt (item_step number)
 
 -- ---- members
 
+-- the block of a method, a constructor or a main
 abbrev pub body_of : MemberTree → Option Block
 body_of (member.Method m) = Some m.body
 body_of (member.Ctor c) = Some c.body

@@ -13,7 +13,9 @@ ghost use Rattle.java_members.specs.Spelling.{tokens_of};
 ghost use Rattle.java_reader.specs.Alike.{Alike};
 ghost use Rattle.java_reader.specs.Reads.{Reads};
 ghost use Rattle.java_reader.specs.Spelling.{TypeMember};
+ghost use Rattle.tree_places.specs.Moved.{moved_tokens};
 ghost use Rattle.tree_places.specs.MovedStmt.{moved_block};
+ghost use Rattle.tree_places.specs.MovedMember.{moved_member, moved_header};
 ghost use Rattle.tree_places.specs.Bare.{bare_member, bare_header, bare_file};
 ghost use Rattle.tree_places.specs.Numbers.{number_of, span_number, numbered_member, numbered_header, placed_member, placed_header};
 ghost use Rattle.tree_places.specs.Units.{HasHeader, HasMember};
@@ -49,6 +51,15 @@ pub fn plain_moved()
     ensures block { (move : Span → Span) (number : Span → ℕ) (b : Block) → plain_block number (moved_block move b) ≡ plain_block (λ at. number (move at)) b }
     ensures body { (m : MemberTree) → plain_body span_number (numbered_member m) ≡ plain_body (number_of (tokens_of m)) m }
 {}
+
+/// Only the places of its tokens stand in a unit: units whose tokens are the same once they are put
+/// elsewhere are the same once they are put there, whatever follows their tokens.
+pub fn moved_units()
+    ensures member { (p q : Span → Span) (kind : TypeKind) (name : List ℕ) (m n : MemberTree) (ts rest us left : List Token) → TypeMember kind name m ts rest → TypeMember kind name n us left → moved_tokens p (tokens_of m) ≡ moved_tokens q (tokens_of n) → moved_member p m ≡ moved_member q n }
+    ensures header { (p q : Span → Span) (g h : Header) (ts rest us left : List Token) → HeaderSpells g ts rest → HeaderSpells h us left → moved_tokens p g.tokens ≡ moved_tokens q h.tokens → moved_header p g ≡ moved_header q h }
+{
+    one_part();
+}
 
 /// Units of alike tokens are one tree but for their places, whatever follows their tokens.
 pub fn alike_units()

@@ -7,6 +7,6 @@ mod laws;
 mod token_numbers;
 
 pub use laws::{
-    alike_texts, alike_tokens, alike_units, one_unit, plain_moved, units_are_placed,
+    alike_texts, alike_tokens, alike_units, moved_units, one_unit, plain_moved, units_are_placed,
 };
 pub use token_numbers::TokenNumbers;

@@ -43,9 +43,13 @@ impl<'a> TokenNumbers<'a> {
         ensures { result ≡ spec.number_of self.now at }
     {
         if self.in_order {
-            self.tokens.partition_point(|token| token.span.start < at.start)
+            self.tokens
+                .partition_point(|token| token.span.start < at.start)
         } else {
-            self.tokens.iter().filter(|token| token.span.start < at.start).count()
+            self.tokens
+                .iter()
+                .filter(|token| token.span.start < at.start)
+                .count()
         }
     }
 
@@ -56,7 +60,8 @@ impl<'a> TokenNumbers<'a> {
     {
         match expr {
             Expr::Int(word) | Expr::Str(word) | Expr::Name(word) => self.number_of(word.span),
-            Expr::True(at) | Expr::False(at) | Expr::Null(at) | Expr::This(at) => self.number_of(*at),
+            Expr::True(at) | Expr::False(at) => self.number_of(*at),
+            Expr::Null(at) | Expr::This(at) => self.number_of(*at),
             Expr::Call(name, _, _) => self.number_of(name.span),
             Expr::New(at, _, _, _) => self.number_of(*at),
             Expr::Paren(opening, _, _) => self.number_of(*opening),

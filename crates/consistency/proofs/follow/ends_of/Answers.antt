@@ -43,4 +43,4 @@ returns-clause-ends c = λ falls.
     let size = ap (λ (z : List ℕ). length z) c.deref-promise-items.ensures.value in
     let all : take i r.order.items ≡ r.order.items = take_all i r.order.items (let t = c.loop-promise-test.false in omega (arith, t, size)) in
     ends_all r.left.items c.args.steps.now r.order.items c.loop-promise.ends.items c.requires.order
-        (subst (λ (z : List ℕ). EndsTo r.left.items c.args.steps.now z c.loop-promise.ends.items) all (c.loop-promise.invariant.1 falls))
+    (subst (λ (z : List ℕ). EndsTo r.left.items c.args.steps.now z c.loop-promise.ends.items) all (c.loop-promise.invariant.1 falls))

@@ -9,5 +9,7 @@ pub invariant_of-result : goal.invariant_of-result
 invariant_of-result c =
     let copies = c.in_ok-copies.field-0 in
     let size : length c.args.promises.now ≡ vec_len copies = (let e = ap (λ (z : List PromiseKey). length z) c.in_ok-copies.ensures in let o = copies.ok.0 in omega (arith, e, o)) in
-    record { wired = subst (λ (z : ℕ). IsWired z c.in_ok-clauses.clauses.items) size
-        (wired_of c.args.promises.now c.clauses_of.new.words.items c.in_ok-clauses.clauses.items c.args.findings.now c.in_ok-clauses.ensures) }
+    record {
+      wired = subst (λ (z : ℕ). IsWired z c.in_ok-clauses.clauses.items) size
+          (wired_of c.args.promises.now c.clauses_of.new.words.items c.in_ok-clauses.clauses.items c.args.findings.now c.in_ok-clauses.ensures);
+    }

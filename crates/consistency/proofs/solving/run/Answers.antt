@@ -9,6 +9,6 @@ returns-clause-runs c = λ ps fs is.
     let flat = c.in_ok-flat.flat in
     let numbered = rw c.deref.ensures.value at c.in_ok-flat.ensures.numbered in
     let count : flat.promises ≡ length ps =
-        (let a = c.in_ok-flat.ensures.promises in let l = c.len.ensures in let o = g.keys.ok.0 in let k = ap (λ (z : List PromiseKey). length z) is.keys in omega (arith, a, l, o, k)) in
+    (let a = c.in_ok-flat.ensures.promises in let l = c.len.ensures in let o = g.keys.ok.0 in let k = ap (λ (z : List PromiseKey). length z) is.keys in omega (arith, a, l, o, k)) in
     run_of c.args.given ps g.words.items g.clauses.items fs flat c.in_ok-rounds.rounds.left.items (record { distinct = is.distinct; clauses = is.clauses }) numbered count
-        c.in_ok-rounds.ensures.solved c.in_ok-rounds.ensures.consistent
+    c.in_ok-rounds.ensures.solved c.in_ok-rounds.ensures.consistent

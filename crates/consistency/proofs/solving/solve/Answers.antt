@@ -12,15 +12,15 @@ pub blames_of-requires-clause-ons : goal.blames_of-requires-clause-ons
 blames_of-requires-clause-ons c =
     let g = c.args.graph.now in
     rw c.deref.ensures.value (λ k d lt.
-      let w = g.wired.ons (get_or g.clauses.items k d) (Contains-get_or g.clauses.items k d lt) in
-      let s = c.in_ok-con.ensures.size in let o = g.keys.ok.0 in omega (arith, w, s, o))
+    let w = g.wired.ons (get_or g.clauses.items k d) (Contains-get_or g.clauses.items k d lt) in
+    let s = c.in_ok-con.ensures.size in let o = g.keys.ok.0 in omega (arith, w, s, o))
 
 pub leaves_of-requires-clause-ons : goal.leaves_of-requires-clause-ons
 leaves_of-requires-clause-ons c =
     let g = c.args.graph.now in
     rw c.deref-2.ensures.value (λ k d lt.
-      let w = g.wired.ons (get_or g.clauses.items k d) (Contains-get_or g.clauses.items k d lt) in
-      let s = c.in_ok-firm.ensures.size in let o = g.keys.ok.0 in omega (arith, w, s, o))
+    let w = g.wired.ons (get_or g.clauses.items k d) (Contains-get_or g.clauses.items k d lt) in
+    let s = c.in_ok-firm.ensures.size in let o = g.keys.ok.0 in omega (arith, w, s, o))
 
 pub returns-clause-verdicts : goal.returns-clause-verdicts
 returns-clause-verdicts c = λ ps fs is.
@@ -30,7 +30,7 @@ returns-clause-verdicts c = λ ps fs is.
     let rows = rw (c.deref-4.ensures.value, c.deref-5.ensures.value, c.deref-6.ensures.value, c.deref-7.ensures.value) at c.in_ok-judged.ensures in
     let known = rw c.deref-8.ensures.value at c.in_ok-numbers_of.ensures in
     verdicts_of ps fs g c.in_ok-con.con.left.items c.in_ok-firm.firm.left.items c.in_ok-blames.blames.items c.in_ok-leaves.leaves.items _ is
-        c.in_ok-con.ensures.runs c.in_ok-firm.ensures.runs blames leaves rows known
+    c.in_ok-con.ensures.runs c.in_ok-firm.ensures.runs blames leaves rows known
 
 greatest_by : (ps : List PromiseKey) (fs : List Finding) (con firm : List (Option ℕ)) (given : Bool) → RunOf ps fs true con → RunOf ps fs false firm → IsGreatest ps fs given
 greatest_by ps fs con firm true a b = a.greatest

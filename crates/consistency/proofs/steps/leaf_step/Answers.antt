@@ -13,13 +13,13 @@ returns-then-all_stay c =
     let i = c.loop-links.links-index in
     let x = c.links-item.result in
     let stays : stays_all con true (length con) x.items ≡ true =
-        subst (λ (n : ℕ). stays_all con true n x.items ≡ true) c.requires
-        (subst (λ (z : List Link). stays_all con true c.args.rounds z ≡ true) c.deref.ensures.value (sym c.all_stay.ensures ∙ c.if-all_stay.true)) in
+    subst (λ (n : ℕ). stays_all con true n x.items ≡ true) c.requires
+    (subst (λ (z : List Link). stays_all con true c.args.rounds z ≡ true) c.deref.ensures.value (sym c.all_stay.ensures ∙ c.if-all_stay.true)) in
     let size = ap (λ (z : List (Vec Link Global)). length z) e in
     let lt : i < length alts = (let t = c.loop-links-test.true in omega (arith, t, size)) in
     let is : x ≡ get_or alts i x = c.links-item.is ∙ ap (λ (z : List (Vec Link Global)). get_or z i x) e in
     let none : find (λ (ls : Vec Link Global). stays_all con true (length con) ls.items) (take i alts) ≡ None =
-        subst (λ (n : ℕ). find (λ (ls : Vec Link Global). stays_all con true n ls.items) (take i alts) ≡ None) c.requires c.loop-links.invariant in
+    subst (λ (n : ℕ). find (λ (ls : Vec Link Global). stays_all con true n ls.items) (take i alts) ≡ None) c.requires c.loop-links.invariant in
     let found = find_here (λ (ls : Vec Link Global). stays_all con true (length con) ls.items) alts i x lt is stays none in
     let gone = c.missing_link.ensures ∙ ap (λ (z : List Link). missing c.args.firm.now false c.args.round z) c.deref-then-all_stay.ensures.value in
     c.step_to.ensures ∙ ap (λ (z : Option Link). step_by z) gone ∙ sym (ap (λ (z : Option (Vec Link Global)). leaf_in c.args.firm.now c.args.round z) found)
@@ -32,7 +32,7 @@ loop-links-preserved c =
     let i = c.loop-links.links-index in
     let x = c.links-item.result in
     let leaves : stays_all con true c.args.rounds x.items ≡ false =
-        subst (λ (z : List Link). stays_all con true c.args.rounds z ≡ false) c.deref.ensures.value (sym c.all_stay.ensures ∙ c.if-all_stay.false) in
+    subst (λ (z : List Link). stays_all con true c.args.rounds z ≡ false) c.deref.ensures.value (sym c.all_stay.ensures ∙ c.if-all_stay.false) in
     let size = ap (λ (z : List (Vec Link Global)). length z) e in
     let lt : i < length alts = (let t = c.loop-links-test.true in omega (arith, t, size)) in
     let is : x ≡ get_or alts i x = c.links-item.is ∙ ap (λ (z : List (Vec Link Global)). get_or z i x) e in

@@ -1,4 +1,4 @@
-use Rattle.std.specs.Prelude.{ℕ, List, Bool, IsTrue}
+use Rattle.std.specs.Prelude.{ℕ, Bool, IsTrue}
 use Rattle.core_model.specs.Code.{Code}
 use Rattle.core_model.specs.Begin.{begin}
 use Rattle.core_model.specs.Step.{run}

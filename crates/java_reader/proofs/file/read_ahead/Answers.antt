@@ -10,7 +10,7 @@ parts-init c = begun-blank (ahead c.args.tokens.now) (ahead c.args.tokens.now) c
 
 pub returns-in_err-draft-clause-cause : goal.returns-in_err-draft-clause-cause
 returns-in_err-draft-clause-cause c =
-    let p = err_from_is_err_and c.from_residual-in_err-draft.result c.from_residual-in_err-draft.ensures.1 in
+    let p = err_from_is_err_and c.from_residual.result c.from_residual.ensures.1 in
     rw (p.1, p.2) (fault c.args.end c.in-Some.at (ahead c.args.tokens.now) (ahead c.parts.tokens) (ahead c.next_part.new.tokens) c.parts.draft _ c.parts.invariant (sym c.in-Some.ensures) c.in_err-draft.ensures)
 
 pub parts-smaller : goal.parts-smaller

@@ -1,6 +1,5 @@
 use Rattle.std.proofs.Common.{rules, ◌≡◌, nat_le}
 use Rattle.std.proofs.lemmas.Fn.{always_returns_same}
-use Rattle.java_tree.specs.declared.token.Token.{Token}
 use Rattle.tree_places.proofs.Search.{in_order-answer}
 use Rattle.tree_places.proofs.token_numbers.TokenNumbers.new.Goals as goal
 
