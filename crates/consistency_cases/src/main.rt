@@ -36,10 +36,22 @@ fn take_line(rt: &impl Print, alloc: Global, table: Table, line: &str) -> Result
                 cases: Vec::new(alloc),
             };
         }
-        "on" => table.cases.push(lines::case_in(alloc, number_in(first), more)?)?,
+        "on" => table
+            .cases
+            .push(lines::case_in(alloc, number_in(first), more)?)?,
         "solve" => print::print_verdicts(rt, alloc, table.promises, &table.cases)?,
-        "chain" => print::count(rt, alloc, number_in(first), &large::chain(alloc, number_in(first))?)?,
-        "star" => print::count(rt, alloc, number_in(first), &large::star(alloc, number_in(first), number_in(more))?)?,
+        "chain" => print::count(
+            rt,
+            alloc,
+            number_in(first),
+            &large::chain(alloc, number_in(first))?,
+        )?,
+        "star" => print::count(
+            rt,
+            alloc,
+            number_in(first),
+            &large::star(alloc, number_in(first), number_in(more))?,
+        )?,
         "random" => print::compare(rt, alloc, number_in(first), number_in(more))?,
         _ => println!(rt; "{line}")?,
     }

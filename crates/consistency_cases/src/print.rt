@@ -7,7 +7,11 @@ use desk_base::{OutOfMemory, PromiseKey};
 use result_records::{FindingKey, FindingLink, VouchKey};
 use std::alloc::Global;
 
-fn verdicts_of(alloc: Global, keys: &[PromiseKey], cases: &[Case]) -> Result<Verdicts, OutOfMemory> {
+fn verdicts_of(
+    alloc: Global,
+    keys: &[PromiseKey],
+    cases: &[Case],
+) -> Result<Verdicts, OutOfMemory> {
     let findings = findings_of(alloc, cases)?;
     let graph = graph_of(alloc, keys, &findings)?;
     solve(alloc, &graph)
@@ -30,7 +34,12 @@ fn word_text<'a>(leaf: Option<&'a FindingLink>) -> &'a [u8] {
     }
 }
 
-fn print_one(rt: &impl Print, verdicts: &Verdicts, promise: usize, key: &PromiseKey) -> Result<(), Error> {
+fn print_one(
+    rt: &impl Print,
+    verdicts: &Verdicts,
+    promise: usize,
+    key: &PromiseKey,
+) -> Result<(), Error> {
     let blame = blame_text(verdicts.blame(key));
     let leaf = std::str::from_utf8(word_text(verdicts.leaf(key))).unwrap_or("");
     match verdicts.verdict(key) {
@@ -44,7 +53,12 @@ fn print_one(rt: &impl Print, verdicts: &Verdicts, promise: usize, key: &Promise
 
 /// Prints the verdict on each promise, with the number from 1 of the finding that it is blamed on,
 /// or the word that it rests on.
-pub fn print_verdicts(rt: &impl Print, alloc: Global, promises: usize, cases: &[Case]) -> Result<(), Error> {
+pub fn print_verdicts(
+    rt: &impl Print,
+    alloc: Global,
+    promises: usize,
+    cases: &[Case],
+) -> Result<(), Error> {
     let keys = keys_of(alloc, promises)?;
     let verdicts = verdicts_of(alloc, &keys, cases)?;
     let mut promise = 0usize;

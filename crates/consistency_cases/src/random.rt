@@ -13,7 +13,10 @@ pub struct Random {
 impl Random {
     /// A number below the limit, or 0.
     pub fn below(&mut self, limit: usize) -> usize {
-        self.state = self.state.wrapping_mul(1_664_525).wrapping_add(1_013_904_223);
+        self.state = self
+            .state
+            .wrapping_mul(1_664_525)
+            .wrapping_add(1_013_904_223);
         if limit == 0 {
             return 0;
         }

@@ -19,16 +19,30 @@ fn survives(set: &[bool], given: bool, case: &Case) -> bool {
     case.ways.iter().any(|links| way_holds(set, given, links))
 }
 
-fn next_round(alloc: Global, cases: &[Case], set: &[bool], given: bool) -> Result<Vec<bool>, OutOfMemory> {
+fn next_round(
+    alloc: Global,
+    cases: &[Case],
+    set: &[bool],
+    given: bool,
+) -> Result<Vec<bool>, OutOfMemory> {
     let mut next = Vec::new(alloc);
     for promise in 0..set.len() {
-        next.push(cases.iter().all(|case| case.on != promise || survives(set, given, case)))?;
+        next.push(
+            cases
+                .iter()
+                .all(|case| case.on != promise || survives(set, given, case)),
+        )?;
     }
     Ok(next)
 }
 
 /// The first round, which is all promises, and as many rounds more as there are promises.
-pub fn rounds_of(alloc: Global, promises: usize, cases: &[Case], given: bool) -> Result<Vec<Vec<bool>>, OutOfMemory> {
+pub fn rounds_of(
+    alloc: Global,
+    promises: usize,
+    cases: &[Case],
+    given: bool,
+) -> Result<Vec<Vec<bool>>, OutOfMemory> {
     let mut rounds = Vec::new(alloc);
     let mut set = vec![in alloc; true; promises]?;
     for _ in 0..promises {
@@ -50,11 +64,16 @@ pub fn is_left(rounds: &[Vec<bool>], promise: usize) -> bool {
 
 /// The last round that has the promise.
 fn last_with(rounds: &[Vec<bool>], promise: usize) -> Option<&Vec<bool>> {
-    rounds.iter().rev().find(|set| set.get(promise).copied().unwrap_or(false))
+    rounds
+        .iter()
+        .rev()
+        .find(|set| set.get(promise).copied().unwrap_or(false))
 }
 
 fn first_lost(cases: &[Case], set: &[bool], given: bool, promise: usize) -> Option<usize> {
-    cases.iter().position(|case| case.on == promise && !survives(set, given, case))
+    cases
+        .iter()
+        .position(|case| case.on == promise && !survives(set, given, case))
 }
 
 fn first_missing(set: &[bool], given: bool, links: &[Link]) -> Option<Link> {
@@ -80,7 +99,12 @@ pub fn blame_of(rounds: &[Vec<bool>], cases: &[Case], promise: usize) -> Option<
 }
 
 /// The leaf of a contingent promise, by the number of the word.
-pub fn leaf_of(con: &[bool], rounds: &[Vec<bool>], cases: &[Case], promise: usize) -> Option<usize> {
+pub fn leaf_of(
+    con: &[bool],
+    rounds: &[Vec<bool>],
+    cases: &[Case],
+    promise: usize,
+) -> Option<usize> {
     let mut at = promise;
     for _ in 0..rounds.len() {
         let set = last_with(rounds, at)?;
