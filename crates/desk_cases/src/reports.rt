@@ -9,9 +9,10 @@ use crate::surfaces::put_bytes;
 use crate::table::first_word;
 use anyhow::{Context, Result, bail};
 use bundle::{BundleError, check_bundle, read_bundle};
+use consistency::Verdict;
 use desk_base::{Bytes, Items, Text};
 use first_project::judge_project;
-use report::{Answers, FindingRow, Verdict, VerdictRow, report_text, verdict_line};
+use report::{Answers, FindingRow, VerdictRow, report_text, verdict_line};
 use result_records::Finding;
 use std::alloc::Global;
 
