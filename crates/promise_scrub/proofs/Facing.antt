@@ -8,7 +8,7 @@ use Rattle.class_faces.specs.declared.face.MemberFace.{MemberFace}
 use Rattle.class_faces.specs.Faces.{field_faces, member_faces}
 use Rattle.promise_marks.specs.declared.mark.Mark.{Mark}
 use Rattle.region_tree.specs.declared.decl.RegionDecl.{RegionDecl}
-use Rattle.scrub_rules.specs.declared.code.ScrubCode.{ScrubCode}
+use Rattle.result_records.specs.declared.code.FindingCode.{FindingCode}
 use Rattle.scrub_rules.specs.Target.{Kinds, kinds_in}
 use Rattle.promise_scrub.specs.declared.found.Found.{Found}
 use Rattle.promise_scrub.specs.declared.lock.Lock.{Lock}
@@ -45,7 +45,7 @@ together class regions n n' i i' fs fs' ms ms' fd fd' asm asm' en ei ef em ed ea
     ∙ ap (λ (z : List Assumption). made class regions n' i' fs' ms' fd' z) ea
 
 pub face_is : (class : ClassTree) (header : List Mark) (marks : List (List Mark)) (regions regions_now : List RegionDecl) (locks locks_now : List Lock)
-    (codes codes_now : List (Option ScrubCode)) (region_map lock_map : BTreeMap (List ℕ) Bool) (name : List ℕ) (implements : List (List ℕ))
+    (codes codes_now : List (Option FindingCode)) (region_map lock_map : BTreeMap (List ℕ) Bool) (name : List ℕ) (implements : List (List ℕ))
     (fields : List FieldFace) (members : List MemberFace) (found : Found) (assumptions : List Assumption)
     → regions_now ≡ regions → locks_now ≡ locks → codes_now ≡ codes → HasKinds region_map (region_kind regions_now) → HasKinds lock_map (lock_kind locks_now)
     → name ≡ class.name.name → implements ≡ names_of class.implements → fields ≡ field_faces class → members ≡ member_faces class
@@ -62,10 +62,10 @@ face_is class header marks regions regions_now locks locks_now codes codes_now r
     let f : found ≡ found_with class header marks (region_kind regions) (lock_kind locks) codes =
     found_is ∙ ap (λ (k : Kinds). found_with class header marks k (kinds_in lock_map) codes_now) rk
     ∙ ap (λ (k : Kinds). found_with class header marks (region_kind regions) k codes_now) lk
-    ∙ ap (λ (z : List (Option ScrubCode)). found_with class header marks (region_kind regions) (lock_kind locks) z) same_codes in
+    ∙ ap (λ (z : List (Option FindingCode)). found_with class header marks (region_kind regions) (lock_kind locks) z) same_codes in
     let a : assumptions ≡ assumptions_of (lock_kind locks) class.name.name header codes =
     assumptions_is ∙ ap (λ (k : Kinds). assumptions_of k class.name.name header codes_now) lk
-    ∙ ap (λ (z : List (Option ScrubCode)). assumptions_of (lock_kind locks) class.name.name header z) same_codes in
+    ∙ ap (λ (z : List (Option FindingCode)). assumptions_of (lock_kind locks) class.name.name header z) same_codes in
     together class regions name class.name.name implements (names_of class.implements) fields (field_faces class) members (member_faces class) found
     (found_with class header marks (region_kind regions) (lock_kind locks) codes) assumptions (assumptions_of (lock_kind locks) class.name.name header codes)
     name_is implements_is fields_is members_is f a

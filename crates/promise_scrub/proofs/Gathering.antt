@@ -15,7 +15,7 @@ use Rattle.region_tree.specs.declared.decl.RegionDecl.{RegionDecl}
 use Rattle.promise_marks.specs.declared.mark.Mark.{Mark}
 use Rattle.promise_marks.specs.Given.{by_member}
 use Rattle.promise_marks.specs.Marks.{AreMarks}
-use Rattle.scrub_rules.specs.declared.code.ScrubCode.{ScrubCode}
+use Rattle.result_records.specs.declared.code.FindingCode.{FindingCode}
 use Rattle.scrub_rules.specs.Target.{Kinds, kinds_in}
 use Rattle.promise_scrub.specs.declared.lock.Lock.{Lock}
 use Rattle.promise_scrub.specs.declared.lock.LockField.{LockField}
@@ -144,7 +144,7 @@ roots_kinds m0 m1 m2 first second empty is_first is_second one two = record {
 }
 
 -- the codes stay as many as they were
-pub codes_long : (places : List ℕ) (aside : List (Option RegionFault)) (given : List (Option ScrubCode)) → length (codes_with places aside given) ≡ length given
+pub codes_long : (places : List ℕ) (aside : List (Option RegionFault)) (given : List (Option FindingCode)) → length (codes_with places aside given) ≡ length given
 codes_long [] aside given = refl
 codes_long (p ∷ ps) [] given = refl
 codes_long (p ∷ ps) (None ∷ more) given = codes_long ps more given
@@ -155,15 +155,15 @@ none_of None h = refl
 none_of (Some x) h = absurd (cc)
 
 -- the same at equal lists
-pub scrubs_at : (ds ds' : List RegionDecl) (ps ps' : List ℕ) (cs cs' : List (Option ScrubCode)) (left : List RegionDecl) (after : List (Option ScrubCode))
+pub scrubs_at : (ds ds' : List RegionDecl) (ps ps' : List ℕ) (cs cs' : List (Option FindingCode)) (left : List RegionDecl) (after : List (Option FindingCode))
     → ds ≡ ds' → ps ≡ ps' → cs ≡ cs' → Scrubs ds ps cs left after → Scrubs ds' ps' cs' left after
 scrubs_at ds ds' ps ps' cs cs' left after same_ds same_ps same_cs s =
     subst (λ (z : List RegionDecl). Scrubs z ps' cs' left after) same_ds
     (subst (λ (z : List ℕ). Scrubs ds z cs' left after) same_ps
-    (subst (λ (z : List (Option ScrubCode)). Scrubs ds ps z left after) same_cs s))
+    (subst (λ (z : List (Option FindingCode)). Scrubs ds ps z left after) same_cs s))
 
 pub steps_at : (rs rs' ks : List RegionDecl) (kinds : BTreeMap (List ℕ) Bool) (known : BTreeMap (List ℕ) LockField) (fields : List FieldFace)
-    (marks : List Mark) (cs cs' : List (Option ScrubCode)) (locks : List Lock) (after : List (Option ScrubCode))
+    (marks : List Mark) (cs cs' : List (Option FindingCode)) (locks : List Lock) (after : List (Option FindingCode))
     → rs ≡ rs' → ks ≡ rs' → cs ≡ cs' → HasKinds kinds (region_kind ks) → HasFields known fields
     → LockSteps rs (kinds_in kinds) (fields_in known) marks cs [] locks after → LockSteps rs' (region_kind rs') (fields_by fields) marks cs' [] locks after
 steps_at rs rs' ks kinds known fields marks cs cs' locks after same_rs same_ks same_cs has_kinds has_fields s =
@@ -172,10 +172,10 @@ steps_at rs rs' ks kinds known fields marks cs cs' locks after same_rs same_ks s
     subst (λ (z : List RegionDecl). LockSteps z (region_kind rs') (fields_by fields) marks cs' [] locks after) same_rs
     (subst (λ (z : Kinds). LockSteps rs z (fields_by fields) marks cs' [] locks after) k
     (subst (λ (z : Fields). LockSteps rs (kinds_in kinds) z marks cs' [] locks after) f
-    (subst (λ (z : List (Option ScrubCode)). LockSteps rs (kinds_in kinds) (fields_in known) marks z [] locks after) same_cs s)))
+    (subst (λ (z : List (Option FindingCode)). LockSteps rs (kinds_in kinds) (fields_in known) marks z [] locks after) same_cs s)))
 
 -- the codes are as many as the annotations
-pub codes_fit : (site : Site) (marks : List Mark) (cs cs' after : List (Option ScrubCode)) (ds : List RegionDecl) (ps : List ℕ) (left : List RegionDecl)
+pub codes_fit : (site : Site) (marks : List Mark) (cs cs' after : List (Option FindingCode)) (ds : List RegionDecl) (ps : List ℕ) (left : List RegionDecl)
     → cs' ≡ after → cs ≡ first_codes site marks → Scrubs ds ps cs left after → length cs' ≡ length marks
 codes_fit site marks cs cs' after ds ps left same first s =
     ap length same ∙ ap length s.coded ∙ codes_long ps s.aside cs ∙ ap length first ∙ length-map marks (λ (m : Mark). first_code site m.tree)

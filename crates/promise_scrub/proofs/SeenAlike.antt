@@ -24,7 +24,7 @@ use Rattle.promise_marks.specs.Given.{Given, by_mods, by_params, by_member}
 use Rattle.promise_marks.specs.Marks.{AreMarks}
 use Rattle.promise_grammar.specs.Kind.{name_of}
 use Rattle.region_tree.specs.declared.decl.RegionDecl.{RegionDecl}
-use Rattle.scrub_rules.specs.declared.code.ScrubCode.{ScrubCode}
+use Rattle.result_records.specs.declared.code.FindingCode.{FindingCode}
 use Rattle.scrub_rules.specs.declared.place.Site.{Site}
 use Rattle.scrub_rules.specs.declared.place.SiteKind.TheVariants as at_kind
 use Rattle.scrub_rules.specs.declared.place.TypeSort.{TypeSort}
@@ -366,7 +366,7 @@ all_found class regions locks scoped (k ∷ ks) (j ∷ rest) (m ∷ ms) (n ∷ n
 
 -- ---- the surface
 
-found_same : (a b : ClassTree) (header : List Mark) (marks : List (List Mark)) (regions locks : Kinds) (codes : List (Option ScrubCode)) → Alike a b
+found_same : (a b : ClassTree) (header : List Mark) (marks : List (List Mark)) (regions locks : Kinds) (codes : List (Option FindingCode)) → Alike a b
     → found_with a header marks regions locks codes ≡ found_with b header marks regions locks codes
 found_same a b header marks regions locks codes alike =
     let kind : a.kind ≡ b.kind = alike.kind in
@@ -380,7 +380,7 @@ found_same a b header marks regions locks codes alike =
     (found_more (text_of (name i)) (header_from (name i) locks (header_site (kind i)) header codes no_promises) found_nothing) in
     all_found a.name.name regions locks (scoped_of (header_site a.kind) header) (member_keys a) marks a.members b.members _ alike.members ∙ others
 
-face_alike : (a b : ClassTree) (header : List Mark) (marks : List (List Mark)) (regions : List RegionDecl) (rk lk : Kinds) (codes : List (Option ScrubCode)) → Alike a b
+face_alike : (a b : ClassTree) (header : List Mark) (marks : List (List Mark)) (regions : List RegionDecl) (rk lk : Kinds) (codes : List (Option FindingCode)) → Alike a b
     → face_with a header marks regions rk lk codes ≡ face_with b header marks regions rk lk codes
 face_alike a b header marks regions rk lk codes alike =
     let kind : a.kind ≡ b.kind = alike.kind in

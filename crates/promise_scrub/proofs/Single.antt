@@ -11,7 +11,7 @@ use Rattle.promise_marks.specs.declared.mark.Mark.{Mark}
 use Rattle.promise_marks.specs.Given.{Given, by_header, by_member}
 use Rattle.promise_marks.specs.Marks.{IsTree, IsMark, AreMarks}
 use Rattle.region_tree.specs.declared.decl.RegionDecl.{RegionDecl}
-use Rattle.scrub_rules.specs.declared.code.ScrubCode.{ScrubCode}
+use Rattle.result_records.specs.declared.code.FindingCode.{FindingCode}
 use Rattle.scrub_rules.specs.Place.{header_site}
 use Rattle.scrub_rules.specs.Target.{Kinds}
 use Rattle.promise_scrub.specs.declared.lock.Lock.{Lock}
@@ -63,10 +63,10 @@ member_marks_same (t ∷ ts) (m ∷ ms) (n ∷ ns) a b =
 
 -- ---- the regions
 
-abbrev Both : List RegionDecl → List RegionDecl → List (Option ScrubCode) → List (Option ScrubCode) → Type 0
+abbrev Both : List RegionDecl → List RegionDecl → List (Option FindingCode) → List (Option FindingCode) → Type 0
 Both left left' after after' = (left ≡ left') × (after ≡ after')
 
-scrubs_same : (ds : List RegionDecl) (ps : List ℕ) (cs : List (Option ScrubCode)) (one other : List RegionDecl) (after after' : List (Option ScrubCode))
+scrubs_same : (ds : List RegionDecl) (ps : List ℕ) (cs : List (Option FindingCode)) (one other : List RegionDecl) (after after' : List (Option FindingCode))
     → Scrubs ds ps cs one after → Scrubs ds ps cs other after' → Both one other after after'
 scrubs_same ds ps cs one other after after' a b =
     let same : a.aside ≡ b.aside = clears_same a.clears.0 b.clears.0 ds _ a.aside b.aside a.clears.1 b.clears.1 in
@@ -74,23 +74,23 @@ scrubs_same ds ps cs one other after after' a b =
 
 -- ---- the locks
 
-code_same : (declared : List RegionDecl) (locks : List Lock) (content : RegionLockContent) (early a b : Option ScrubCode)
+code_same : (declared : List RegionDecl) (locks : List Lock) (content : RegionLockContent) (early a b : Option FindingCode)
     → IsLateCode declared locks content early a → IsLateCode declared locks content early b → a ≡ b
 code_same declared locks content (Some e) a b f g = f ∙ sym g
-code_same declared locks content None (Some x) (Some y) f g = ap (λ (c : ScrubCode). Some c) (f.0 ∙ sym g.0)
+code_same declared locks content None (Some x) (Some y) f g = ap (λ (c : FindingCode). Some c) (f.0 ∙ sym g.0)
 code_same declared locks content None (Some x) None f g = absurd (g f.1)
 code_same declared locks content None None (Some y) f g = absurd (f g.1)
 code_same declared locks content None None None f g = refl
 
-step_same : (declared : List RegionDecl) (kinds : Kinds) (fields : Fields) (o : Option RegionLockContent) (locks : List Lock) (before : Option ScrubCode)
-    (next next' : List Lock) (code code' : Option ScrubCode) → LockStep declared kinds fields o locks before next code → LockStep declared kinds fields o locks before next' code'
+step_same : (declared : List RegionDecl) (kinds : Kinds) (fields : Fields) (o : Option RegionLockContent) (locks : List Lock) (before : Option FindingCode)
+    (next next' : List Lock) (code code' : Option FindingCode) → LockStep declared kinds fields o locks before next code → LockStep declared kinds fields o locks before next' code'
     → (next ≡ next') × (code ≡ code')
 step_same declared kinds fields None locks before next next' code code' s t = (s.0 ∙ sym t.0, s.1 ∙ sym t.1)
 step_same declared kinds fields (Some content) locks before next next' code code' s t =
     let same : code ≡ code' = code_same declared locks content (early_code kinds fields locks content) code code' s.0 t.0 in
-    (s.1 ∙ ap (λ (c : Option ScrubCode). locks_with fields locks content c) same ∙ sym t.1, same)
+    (s.1 ∙ ap (λ (c : Option FindingCode). locks_with fields locks content c) same ∙ sym t.1, same)
 
-steps_same : (declared : List RegionDecl) (kinds : Kinds) (fields : Fields) (ms : List Mark) (cs : List (Option ScrubCode)) (locks last last' : List Lock) (after after' : List (Option ScrubCode))
+steps_same : (declared : List RegionDecl) (kinds : Kinds) (fields : Fields) (ms : List Mark) (cs : List (Option FindingCode)) (locks last last' : List Lock) (after after' : List (Option FindingCode))
     → LockSteps declared kinds fields ms cs locks last after → LockSteps declared kinds fields ms cs locks last' after' → (last ≡ last') × (after ≡ after')
 steps_same declared kinds fields [] cs locks last last' after after' s t = (s.0 ∙ sym t.0, s.1 ∙ sym t.1)
 steps_same declared kinds fields (m ∷ ms) [] locks last last' after after' s t = absurd s
@@ -98,7 +98,7 @@ steps_same declared kinds fields (m ∷ ms) (c ∷ cs) locks last last' after af
     let one = step_same declared kinds fields (lock_by c m.tree) locks c next next' code code' step step' in
     let others = steps_same declared kinds fields ms cs next last last' rest rest' steps
     (subst (λ (x : List Lock). LockSteps declared kinds fields ms cs x last' rest') (sym one.0) steps') in
-    (others.0, is ∙ ap (λ (x : Option ScrubCode). x ∷ rest) one.1 ∙ ap (λ (x : List (Option ScrubCode)). code' ∷ x) others.1 ∙ sym is')
+    (others.0, is ∙ ap (λ (x : Option FindingCode). x ∷ rest) one.1 ∙ ap (λ (x : List (Option FindingCode)). code' ∷ x) others.1 ∙ sym is')
 
 -- ---- the surface
 
@@ -113,7 +113,7 @@ one_face class a b s t =
     λ i. face_with class (headers i) (members i) (all.0 i) (region_kind (all.0 i)) (lock_kind (all.1 i)) (all.2 i) in
     s.is ∙ faces ∙ sym t.is
   where
-    scrubbed : (header : List Mark) (regions regions' : List RegionDecl) (locks locks' : List Lock) (codes codes' : List (Option ScrubCode))
+    scrubbed : (header : List Mark) (regions regions' : List RegionDecl) (locks locks' : List Lock) (codes codes' : List (Option FindingCode))
         → HeaderScrubbed (header_site class.kind) (field_faces class) header regions locks codes
         → HeaderScrubbed (header_site class.kind) (field_faces class) header regions' locks' codes'
         → (regions ≡ regions') × (locks ≡ locks') × (codes ≡ codes')
@@ -121,6 +121,6 @@ one_face class a b s t =
         let r = scrubs_same (decls_of (header_site class.kind) header) (places_from (header_site class.kind) 0 header)
         (first_codes (header_site class.kind) header) regions regions' between between' s1 s2 in
         let l = steps_same regions (region_kind regions) (fields_by (field_faces class)) header between [] locks locks' codes codes' l1
-        (subst (λ (x : List (Option ScrubCode)). LockSteps regions (region_kind regions) (fields_by (field_faces class)) header x [] locks' codes') (sym r.1)
+        (subst (λ (x : List (Option FindingCode)). LockSteps regions (region_kind regions) (fields_by (field_faces class)) header x [] locks' codes') (sym r.1)
         (subst (λ (x : List RegionDecl). LockSteps x (region_kind x) (fields_by (field_faces class)) header between' [] locks' codes') (sym r.0) l2)) in
         (r.0, l.0, l.1)

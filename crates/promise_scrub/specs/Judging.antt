@@ -9,8 +9,8 @@ use Rattle.promise_grammar.specs.declared.tree.PromiseTree.{PromiseTree, out-Pro
 use Rattle.promise_grammar.specs.declared.tree.PromiseTree.TheOpen.{PromiseTree-F}
 use Rattle.class_faces.specs.declared.face.ParamFace.{ParamFace}
 use Rattle.class_faces.specs.Faces.{is_static}
-use Rattle.scrub_rules.specs.declared.code.ScrubCode.{ScrubCode}
-use Rattle.scrub_rules.specs.declared.code.ScrubCode.TheVariants as scrub
+use Rattle.result_records.specs.declared.code.FindingCode.{FindingCode}
+use Rattle.result_records.specs.declared.code.FindingCode.TheVariants as scrub
 use Rattle.scrub_rules.specs.declared.detail.Claim.{Claim}
 use Rattle.scrub_rules.specs.declared.place.Site.{Site}
 use Rattle.scrub_rules.specs.Code.{least}
@@ -60,7 +60,7 @@ kept_items at spread own items =
     filter (λ item. not (goes spread own (labelled kind.RequiresLock (lock_detail at.locks at.class item)))) items
 
 -- the code of what the content names
-abbrev pub content_code : Facts → Bool → Bool → List (List ℕ) → PromiseTree-F PromiseTree → Option ScrubCode
+abbrev pub content_code : Facts → Bool → Bool → List (List ℕ) → PromiseTree-F PromiseTree → Option FindingCode
 content_code at has_this spread own (PromiseTree-F.InRegion name) = in_region_code (at.regions name) at.field_static
 content_code at has_this spread own (PromiseTree-F.RequiresLock items) =
     locks_code at.locks at.class has_this at.params (kept_items at spread own items)
@@ -74,7 +74,7 @@ abbrev pub repeats : List (List ℕ) → List (List ℕ) → List Claim → Bool
 repeats tags seen [] = false
 repeats tags seen (c ∷ cs) = (is_among c.tag tags || is_among c.tag seen) || repeats tags (seen ++ c.tag ∷ []) cs
 
-abbrev pub repeat_code : List (List ℕ) → List Claim → Option ScrubCode
+abbrev pub repeat_code : List (List ℕ) → List Claim → Option FindingCode
 repeat_code tags claims = if repeats tags [] claims then Some scrub.RepeatedPromise else None
 
 abbrev pub is_vouch : PromiseTree-F PromiseTree → Bool
@@ -86,7 +86,7 @@ is_nil [] = true
 is_nil _ = false
 
 -- set aside with its code, or standing
-abbrev pub by_code : Facts → Bool → PromiseName → PromiseTree → List Claim → Option ScrubCode → Target → Target
+abbrev pub by_code : Facts → Bool → PromiseName → PromiseTree → List Claim → Option FindingCode → Target → Target
 by_code at spread name tree claims (Some code) u = put_aside at.key name code u
 by_code at spread name tree claims None u = put_claims at.key spread tree (is_vouch (out-PromiseTree tree)) claims u
 
@@ -98,7 +98,7 @@ judged_with at site spread name tree claims u =
     by_code at spread name tree claims
     (least (content_code at site.has_this spread u.own (out-PromiseTree tree)) (repeat_code u.tags claims)) u
 
-abbrev pub judged_by : Facts → Site → List ℕ → Bool → PromiseName → PromiseTree → Option ScrubCode → Target → Target
+abbrev pub judged_by : Facts → Site → List ℕ → Bool → PromiseName → PromiseTree → Option FindingCode → Target → Target
 judged_by at site param spread name tree (Some code) u = put_aside at.key name code u
 judged_by at site param spread name tree None u =
     judged_with at site spread name tree (kept_claims spread u.own (claims_of at.locks at.class site.kind param (out-PromiseTree tree))) u

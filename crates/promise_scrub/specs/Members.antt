@@ -10,8 +10,8 @@ use Rattle.promise_grammar.specs.declared.scope.ScopeContent.{ScopeContent}
 use Rattle.promise_grammar.specs.declared.tree.PromiseTree.{PromiseTree, out-PromiseTree}
 use Rattle.promise_grammar.specs.declared.tree.PromiseTree.TheOpen.{PromiseTree-F}
 use Rattle.promise_marks.specs.declared.mark.Mark.{Mark}
-use Rattle.scrub_rules.specs.declared.code.ScrubCode.{ScrubCode}
-use Rattle.scrub_rules.specs.declared.code.ScrubCode.TheVariants as scrub
+use Rattle.result_records.specs.declared.code.FindingCode.{FindingCode}
+use Rattle.result_records.specs.declared.code.FindingCode.TheVariants as scrub
 use Rattle.scrub_rules.specs.declared.place.Site.{Site}
 use Rattle.scrub_rules.specs.Detail.{param_name, flat}
 use Rattle.scrub_rules.specs.Place.{first_code, site_of}
@@ -61,7 +61,7 @@ abbrev pub scoped_in : PromiseTree-F PromiseTree → List Scoped
 scoped_in (PromiseTree-F.Promise inner scope) = scoped_with scope (flat inner)
 scoped_in _ = []
 
-abbrev pub scoped_by : Option ScrubCode → Option PromiseTree → List Scoped
+abbrev pub scoped_by : Option FindingCode → Option PromiseTree → List Scoped
 scoped_by None (Some tree) = scoped_in (out-PromiseTree tree)
 scoped_by _ _ = []
 

@@ -19,7 +19,7 @@ use Rattle.promise_marks.specs.declared.mark.Mark.{Mark}
 use Rattle.promise_marks.specs.Given.{by_header, by_member}
 use Rattle.promise_marks.specs.Marks.{AreMarks}
 use Rattle.region_tree.specs.declared.decl.RegionDecl.{RegionDecl}
-use Rattle.scrub_rules.specs.declared.code.ScrubCode.{ScrubCode}
+use Rattle.result_records.specs.declared.code.FindingCode.{FindingCode}
 use Rattle.scrub_rules.specs.declared.detail.Claim.{Claim}
 use Rattle.scrub_rules.specs.declared.place.SiteKind.{SiteKind}
 use Rattle.scrub_rules.specs.declared.place.SiteKind.TheVariants as at
@@ -60,13 +60,13 @@ abbrev pub name_of_mark : Mark → PromiseName
 name_of_mark m = name_of m.kind
 
 -- an annotation of the header, by its code after regions and locks were judged
-abbrev pub header_by : List ℕ → List ℕ → Kinds → Site → PromiseName → Option PromiseTree → Option ScrubCode → Target → Target
+abbrev pub header_by : List ℕ → List ℕ → Kinds → Site → PromiseName → Option PromiseTree → Option FindingCode → Target → Target
 header_by key class locks site name tree (Some code) u = put_aside key name code u
 header_by key class locks site name None None u = u
 header_by key class locks site name (Some tree) None u =
     put_claims key false tree (is_vouch (out-PromiseTree tree)) (claims_of locks class site.kind [] (out-PromiseTree tree)) u
 
-abbrev pub header_from : List ℕ → Kinds → Site → List Mark → List (Option ScrubCode) → Target → Target
+abbrev pub header_from : List ℕ → Kinds → Site → List Mark → List (Option FindingCode) → Target → Target
 header_from class locks site [] codes u = u
 header_from class locks site (m ∷ ms) [] u = u
 header_from class locks site (m ∷ ms) (c ∷ cs) u =
@@ -107,11 +107,11 @@ abbrev pub assumptions_in : Kinds → List ℕ → PromiseTree-F PromiseTree →
 assumptions_in locks class (PromiseTree-F.Assume inner member) = assumptions_for locks class member inner
 assumptions_in locks class _ = []
 
-abbrev pub assumptions_by : Kinds → List ℕ → Option ScrubCode → Option PromiseTree → List Assumption
+abbrev pub assumptions_by : Kinds → List ℕ → Option FindingCode → Option PromiseTree → List Assumption
 assumptions_by locks class None (Some tree) = assumptions_in locks class (out-PromiseTree tree)
 assumptions_by locks class _ _ = []
 
-abbrev pub assumptions_of : Kinds → List ℕ → List Mark → List (Option ScrubCode) → List Assumption
+abbrev pub assumptions_of : Kinds → List ℕ → List Mark → List (Option FindingCode) → List Assumption
 assumptions_of locks class [] codes = []
 assumptions_of locks class (m ∷ ms) [] = []
 assumptions_of locks class (m ∷ ms) (c ∷ cs) = assumptions_by locks class c m.tree ++ assumptions_of locks class ms cs
@@ -161,7 +161,7 @@ abbrev pub names_of : List Word → List (List ℕ)
 names_of words = map (λ w. w.name) words
 
 -- what is found in the header and then in the members
-abbrev pub found_with : ClassTree → List Mark → List (List Mark) → Kinds → Kinds → List (Option ScrubCode) → Found
+abbrev pub found_with : ClassTree → List Mark → List (List Mark) → Kinds → Kinds → List (Option FindingCode) → Found
 found_with class header members regions locks codes =
     found_from class.name.name regions locks (scoped_of (header_site class.kind) header) (member_keys class) members class.members
     (found_more (text_of class.name.name) (header_from class.name.name locks (header_site class.kind) header codes no_promises) found_nothing)
@@ -181,14 +181,14 @@ face_by class regions found assumptions = record {
 }
 
 -- the surface of a class, by its annotations, the regions and locks that stand, and the header's codes
-abbrev pub face_with : ClassTree → List Mark → List (List Mark) → List RegionDecl → Kinds → Kinds → List (Option ScrubCode) → Face
+abbrev pub face_with : ClassTree → List Mark → List (List Mark) → List RegionDecl → Kinds → Kinds → List (Option FindingCode) → Face
 face_with class header members regions region_kinds lock_kinds codes =
     face_by class regions (found_with class header members region_kinds lock_kinds codes) (assumptions_of lock_kinds class.name.name header codes)
 
 -- the regions and locks of a header that stand, and the codes of its annotations
-abbrev pub HeaderScrubbed : Site → List FieldFace → List Mark → List RegionDecl → List Lock → List (Option ScrubCode) → Type 0
+abbrev pub HeaderScrubbed : Site → List FieldFace → List Mark → List RegionDecl → List Lock → List (Option FindingCode) → Type 0
 HeaderScrubbed site fields header regions locks codes =
-    (between : List (Option ScrubCode)) × Scrubs (decls_of site header) (places_from site 0 header) (first_codes site header) regions between
+    (between : List (Option FindingCode)) × Scrubs (decls_of site header) (places_from site 0 header) (first_codes site header) regions between
     × LockSteps regions (region_kind regions) (fields_by fields) header between [] locks codes
 
 -- Surface: the annotations are read from the class's tree, the regions are scrubbed, then the locks, and
@@ -200,6 +200,6 @@ pub record Surface (class : ClassTree) (face : Face) : Type 0 where
   pub members_read : AreMemberMarks class.members members
   pub regions : List RegionDecl
   pub locks : List Lock
-  pub codes : List (Option ScrubCode)
+  pub codes : List (Option FindingCode)
   pub scrubbed : HeaderScrubbed (header_site class.kind) (field_faces class) header regions locks codes
   pub is : face ≡ face_with class header members regions (region_kind regions) (lock_kind locks) codes

@@ -3,7 +3,7 @@ use Rattle.std.specs.Prelude.{ℕ, ◌+◌, Bool, false, ◌||◌, List, [], ◌
 use Rattle.desk_base.specs.declared.key.PromiseName.{PromiseName}
 use Rattle.promise_grammar.specs.declared.tree.PromiseTree.{PromiseTree}
 use Rattle.class_faces.specs.Keys.{text_of}
-use Rattle.scrub_rules.specs.declared.code.ScrubCode.{ScrubCode}
+use Rattle.result_records.specs.declared.code.FindingCode.{FindingCode}
 use Rattle.scrub_rules.specs.declared.detail.Claim.{Claim}
 use Rattle.scrub_rules.specs.Detail.{labelled, flat}
 use Rattle.promise_scrub.specs.Texts.{is_among}
@@ -19,11 +19,11 @@ no_promises = record { number = 0; own = []; tags = []; stood = []; standing = [
 abbrev pub aside_detail : ℕ → List ℕ
 aside_detail number = codes "#" ++ decimal number
 
-abbrev pub aside_of : List ℕ → PromiseName → ℕ → ScrubCode → Aside
+abbrev pub aside_of : List ℕ → PromiseName → ℕ → FindingCode → Aside
 aside_of key name number code = record { key = record { target = key; name = name; detail = aside_detail number }; code = code }
 
 -- An annotation more is set aside. It is numbered among the promise annotations of its target.
-abbrev pub put_aside : List ℕ → PromiseName → ScrubCode → Target → Target
+abbrev pub put_aside : List ℕ → PromiseName → FindingCode → Target → Target
 put_aside key name code u = record {
   number = u.number + 1;
   own = u.own;

@@ -11,7 +11,7 @@ use desk_base::{Bytes, Items, Name, OutOfMemory, PromiseKey};
 use itoa::Buffer;
 use promise_grammar::{MemberContent, MemberName, PromiseTree};
 use promise_marks::Mark;
-use scrub_rules::{Claim, ScrubCode, SiteKind, claims_of, copied};
+use scrub_rules::{Claim, FindingCode, SiteKind, claims_of, copied};
 use std::alloc::Global;
 use std::collections::BTreeMap;
 
@@ -121,7 +121,7 @@ fn put_mark(
     out: &mut Items<Assumption>,
     locks: &BTreeMap<Name, bool>,
     class: &Name,
-    code: Option<ScrubCode>,
+    code: Option<FindingCode>,
     tree: &Option<PromiseTree>,
 ) -> Result<(), OutOfMemory>
     ensures { OnOk result (out.new ≡ out.old ++ spec.assumptions_by (kinds_in locks.now) class.now code tree.now) }
@@ -138,7 +138,7 @@ pub(crate) fn assumptions_of(
     locks: &BTreeMap<Name, bool>,
     class: &Name,
     marks: &[Mark],
-    codes: &[Option<ScrubCode>],
+    codes: &[Option<FindingCode>],
 ) -> Result<Items<Assumption>, OutOfMemory>
     ensures { IfOk result (λ out. out ≡ spec.assumptions_of (kinds_in locks.now) class.now marks.now codes.now) }
 {

@@ -7,7 +7,7 @@ use class_faces::text_of;
 use desk_base::{Bytes, Items, OutOfMemory, PromiseKey, PromiseName, Text};
 use itoa::Buffer;
 use promise_grammar::PromiseTree;
-use scrub_rules::{Claim, ScrubCode, copied, labelled};
+use scrub_rules::{Claim, FindingCode, copied, labelled};
 use std::alloc::Global;
 
 fn aside_detail(alloc: Global, number: usize) -> Result<Text, OutOfMemory>
@@ -24,7 +24,7 @@ pub(crate) fn aside_of(
     key: &Text,
     name: PromiseName,
     number: usize,
-    code: ScrubCode,
+    code: FindingCode,
 ) -> Result<Aside, OutOfMemory>
     ensures { IfOk result (λ aside. aside ≡ spec.aside_of key.now name number code) }
 {

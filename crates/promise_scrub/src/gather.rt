@@ -15,7 +15,7 @@ use class_faces::{is_static, named_params};
 use desk_base::{Items, Name, OutOfMemory, Text};
 use java_tree::{MemberTree, Word};
 use promise_marks::{Mark, member_marks};
-use scrub_rules::{ScrubCode, Site, claims_of};
+use scrub_rules::{FindingCode, Site, claims_of};
 use std::alloc::Global;
 use std::collections::BTreeMap;
 
@@ -27,7 +27,7 @@ fn put_header(
     locks: &BTreeMap<Name, bool>,
     site: Site,
     mark: &Mark,
-    code: Option<ScrubCode>,
+    code: Option<FindingCode>,
     unit: &mut Unit,
 ) -> Result<(), OutOfMemory>
     ensures { OnOk result (unit.new ≡ spec.header_by key.now class.now (kinds_in locks.now) site (spec.name_of_mark mark.now) mark.now.tree code unit.old) }
@@ -50,7 +50,7 @@ pub(crate) fn header_unit(
     locks: &BTreeMap<Name, bool>,
     site: Site,
     marks: &[Mark],
-    codes: &[Option<ScrubCode>],
+    codes: &[Option<FindingCode>],
     key: &Text,
     unit: &mut Unit,
 ) -> Result<(), OutOfMemory>

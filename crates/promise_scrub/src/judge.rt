@@ -10,7 +10,7 @@ use crate::unit::Unit;
 use desk_base::{Bytes, Items, OutOfMemory, PromiseName};
 use promise_grammar::{LockItem, PromiseTree};
 use scrub_rules::{
-    Claim, Lookup, ScrubCode, Site, claims_of, copied_item, effects_code, in_region_code, labelled,
+    Claim, Lookup, FindingCode, Site, claims_of, copied_item, effects_code, in_region_code, labelled,
     least, lock_detail, locks_code, place_code,
 };
 use std::alloc::Global;
@@ -78,7 +78,7 @@ fn content_code(
     spread: bool,
     own: &Texts,
     tree: &PromiseTree,
-) -> Result<Option<ScrubCode>, OutOfMemory>
+) -> Result<Option<FindingCode>, OutOfMemory>
     ensures { IfOk result (λ code. code ≡ spec.content_code (facts_of at.now) has_this spread own.now (out-PromiseTree tree.now)) }
 {
     match tree {
@@ -124,11 +124,11 @@ fn repeat_code(
     alloc: Global,
     tags: &Texts,
     claims: &[Claim],
-) -> Result<Option<ScrubCode>, OutOfMemory>
+) -> Result<Option<FindingCode>, OutOfMemory>
     ensures { IfOk result (λ code. code ≡ spec.repeat_code tags.now claims.now) }
 {
     if repeats(alloc, tags, claims)? {
-        Ok(Some(ScrubCode::RepeatedPromise))
+        Ok(Some(FindingCode::RepeatedPromise))
     } else {
         Ok(None)
     }
@@ -148,7 +148,7 @@ fn put_by_code(
     name: PromiseName,
     tree: &PromiseTree,
     claims: &[Claim],
-    code: Option<ScrubCode>,
+    code: Option<FindingCode>,
     unit: &mut Unit,
 ) -> Result<(), OutOfMemory>
     ensures { OnOk result (unit.new ≡ spec.by_code (facts_of at.now) spread name tree.now claims.now code unit.old) }

@@ -33,7 +33,7 @@ pub use member::Scoped;
 pub use region_tree::RegionDecl;
 pub use regions::{ScrubbedRegions, decls_of, first_codes, places_of, scrub_regions};
 pub use scrub::surface_of;
-pub use scrub_rules::ScrubCode;
+pub use scrub_rules::FindingCode;
 pub use spread::{promises_of, scoped_of};
 pub use surface::{Aside, Assumption, Standing, Surface};
 pub use texts::Texts;

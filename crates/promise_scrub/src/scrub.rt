@@ -24,7 +24,7 @@ use desk_base::{Items, Name, OutOfMemory};
 use java_tree::ClassTree;
 use promise_marks::{Mark, header_marks};
 use region_tree::RegionDecl;
-use scrub_rules::{ScrubCode, Site, header_site};
+use scrub_rules::{FindingCode, Site, header_site};
 use std::alloc::Global;
 use std::collections::BTreeMap;
 
@@ -33,7 +33,7 @@ use std::collections::BTreeMap;
 struct Header {
     regions: Items<RegionDecl>,
     locks: Items<Lock>,
-    codes: Items<Option<ScrubCode>>,
+    codes: Items<Option<FindingCode>>,
 }
 
 fn scrub_header(
@@ -74,7 +74,7 @@ fn found_in(
     members: &[Items<Mark>],
     regions: &BTreeMap<Name, bool>,
     locks: &BTreeMap<Name, bool>,
-    codes: &[Option<ScrubCode>],
+    codes: &[Option<FindingCode>],
 ) -> Result<Found, OutOfMemory>
     ensures { IfOk result (λ found. found ≡ spec.found_with class.now header.now members.now (kinds_in regions.now) (kinds_in locks.now) codes.now) }
 {

@@ -13,7 +13,7 @@ use desk_base::{Items, OutOfMemory, PromiseName};
 use java_tree::MemberTree;
 use promise_grammar::{PromiseTree, ScopeContent};
 use promise_marks::Mark;
-use scrub_rules::{ScrubCode, Site, copied, first_code, param_name, selects, site_of};
+use scrub_rules::{FindingCode, Site, copied, first_code, param_name, selects, site_of};
 use std::alloc::Global;
 
 fn put_mark(
@@ -27,7 +27,7 @@ fn put_mark(
 {
     let name = mark.kind.name();
     match &mark.tree {
-        None => unit.put_aside(alloc, at.key, name, ScrubCode::BadContent),
+        None => unit.put_aside(alloc, at.key, name, FindingCode::BadContent),
         Some(tree) => {
             let site = site_of(member, mark.param);
             let param = param_name(member, mark.param);

@@ -3,7 +3,7 @@ use desk_base::{Items, Name, PromiseKey, Text};
 use java_tree::TypeKind;
 use promise_grammar::PromiseTree;
 use region_tree::RegionDecl;
-use scrub_rules::ScrubCode;
+use scrub_rules::FindingCode;
 
 /// A promise that stands, with the content of the annotation that gives it.
 #[derive(Debug, Drop)]
@@ -17,7 +17,7 @@ pub struct Standing {
 #[derive(Debug, Drop)]
 pub struct Aside {
     pub key: PromiseKey,
-    pub code: ScrubCode,
+    pub code: FindingCode,
 }
 
 /// An assumption: the class and the member (`name/count`) that it is about, and the assumed promise.

@@ -3,7 +3,7 @@ use crate::surface::{Aside, Standing};
 use crate::texts::Texts;
 use desk_base::{Items, OutOfMemory, PromiseName, Text};
 use promise_grammar::PromiseTree;
-use scrub_rules::{Claim, ScrubCode};
+use scrub_rules::{Claim, FindingCode};
 use std::alloc::Global;
 
 /// The promises of one unit, as its annotations are judged one by one: how many there were, which
@@ -45,7 +45,7 @@ impl Unit {
         alloc: Global,
         key: &Text,
         name: PromiseName,
-        code: ScrubCode,
+        code: FindingCode,
     ) -> Result<(), OutOfMemory>
         ensures { OnOk result (self.new ≡ spec.put_aside key.now name code self.old) }
     {

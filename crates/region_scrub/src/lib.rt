@@ -7,7 +7,7 @@ mod index;
 mod laws;
 mod left;
 mod make;
-mod mark;
+mod chain_state;
 mod rooting;
 mod scrubber;
 

@@ -8,7 +8,7 @@ mod decl;
 mod disjoint;
 mod fault;
 mod make;
-mod mark;
+mod chain_state;
 mod names;
 mod place;
 mod tree;
