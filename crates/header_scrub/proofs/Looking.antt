@@ -1,4 +1,4 @@
--- Texts, locks and fields as they are put to lists and to what they are looked up in.
+-- Locks and fields as they are put to lists and to what they are looked up in.
 use Rattle.std.proofs.Common.{◌≡◌, ℕ, ◌+◌, ◌<◌, List, [], ◌∷◌, ◌++◌, length, take, get_or, refl, sym, ◌∙◌, ap, subst, Bool, true, false, cond}
 use Rattle.std.specs.Prelude.{◌||◌, Option, Some, None, find, is_some}
 use Rattle.std.specs.List.{list_any}
@@ -12,33 +12,19 @@ use Rattle.std.proofs.lemmas.Slice.Eq.{bytes_eq-Decides}
 use Rattle.class_faces.specs.declared.face.FieldFace.{FieldFace}
 use Rattle.header_scrub.specs.declared.lock.Lock.{Lock}
 use Rattle.header_scrub.specs.declared.lock.LockField.{LockField}
-use Rattle.header_scrub.specs.Locks.{has_lock, HasNames, fields_by, fields_in, lock_field, HasFields, PutsField}
+use Rattle.header_scrub.specs.Fields.{fields_by, fields_in, lock_field, HasFields, PutsField}
+use Rattle.header_scrub.specs.Locks.{has_lock, HasNames}
 use Rattle.std.specs.Cmp.Lexicographic.{slice_cmp}
 use Rattle.std.specs.Str.{bytes_eq}
 use Rattle.std.specs.BTreeSet.{BTreeSet, contains, Updates, IsEmpty}
 use Rattle.std.proofs.lemmas.Map.Text.{is_eq-slice_cmp}
 use Rattle.std.proofs.lemmas.List.Folds.{list_any-append}
-use Rattle.header_scrub.specs.Texts.{is_among, Lists}
 
 either : (b h : Bool) → cond b true h ≡ (h || (b || false))
 either true true = refl
 either true false = refl
 either false true = refl
 either false false = refl
-
-pub lists_none : (set : BTreeSet (List ℕ)) → IsEmpty set → Lists set []
-lists_none set empty = record { lists = λ q. ap (λ (ks : List (List ℕ)). list_any (is_at (slice_cmp nat_cmp q)) ks) empty }
-
--- one text is put
-pub lists_more : (old new : BTreeSet (List ℕ)) (list : List (List ℕ)) (copy text : List ℕ) → copy ≡ text → Updates (slice_cmp nat_cmp) old new copy true → Lists old list
-    → Lists new (list ++ text ∷ [])
-lists_more old new list copy text same u l = record {
-  lists = λ q.
-      u.0 q ∙ ap (λ (b : Bool). cond b true (contains (slice_cmp nat_cmp) old q)) (is_eq-slice_cmp copy q)
-      ∙ ap (λ (b : Bool). cond (bytes_eq copy q) true b) (l.lists q) ∙ either (bytes_eq copy q) (is_among q list)
-      ∙ ap (λ (t : List ℕ). is_among q list || (bytes_eq t q || false)) same
-      ∙ sym (list_any-append (λ t. bytes_eq t q) list (text ∷ []));
-}
 
 not_none : {A : Type 0} (xs : List A) (x : A) → xs ++ x ∷ [] ≡ [] → ⊥
 not_none [] x e = absurd (cc)

@@ -1,5 +1,5 @@
 use Rattle.std.proofs.Common.{take}
-use Rattle.header_scrub.specs.Locks.{HasFields}
+use Rattle.header_scrub.specs.Fields.{HasFields}
 use Rattle.header_scrub.proofs.fields.lock_fields.Given as goal
 
 -- the fields so far

@@ -1,5 +1,5 @@
 use Rattle.std.proofs.Common.{take}
-use Rattle.header_scrub.specs.Surfaces.{HasKinds, lock_kind}
+use Rattle.header_scrub.specs.Kinds.{HasKinds, lock_kind}
 use Rattle.header_scrub.proofs.kinds.lock_kinds.Given as goal
 
 -- those of the locks so far

@@ -1,6 +1,6 @@
 use Rattle.std.proofs.Common.{take}
-use Rattle.header_scrub.specs.Locks.{region_kind}
-use Rattle.header_scrub.specs.Surfaces.{HasKinds}
+use Rattle.header_scrub.specs.Kinds.{region_kind}
+use Rattle.header_scrub.specs.Kinds.{HasKinds}
 use Rattle.header_scrub.proofs.kinds.region_kinds.Given as goal
 
 -- those of the regions so far

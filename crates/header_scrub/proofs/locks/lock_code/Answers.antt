@@ -2,7 +2,8 @@ use Rattle.std.proofs.Common.{◌≡◌, false}
 use Rattle.std.specs.Prelude.{Option, is_some}
 use Rattle.result_records.specs.declared.code.FindingCode.{FindingCode}
 use Rattle.scrub_rules.specs.Target.{kinds_in}
-use Rattle.header_scrub.specs.Locks.{early_code, fields_in, lock_of}
+use Rattle.header_scrub.specs.Locks.{early_code, lock_of}
+use Rattle.header_scrub.specs.Fields.{fields_in}
 use Rattle.header_scrub.proofs.Holding.{holds_more, no_code, late_code, no_late_code}
 use Rattle.header_scrub.proofs.locks.lock_code.Goals as goal
 
