@@ -1,14 +1,14 @@
 use desk_base::{Name, OutOfMemory, Span};
 use first_form::{ascii_names, is_first_form};
-use java_tree::{ClassTree, FileTree, TypeKind, Word};
+use java_tree::{ClassTree, FileTree, TypeKind, Lexeme};
 use sqlite_items::Items;
 use std::alloc::Global;
 use std::test::Fail;
 
 /// A file of one type without members.
 fn empty_type(alloc: Global, kind: TypeKind) -> Result<FileTree, OutOfMemory> {
-    let name = Word {
-        name: Name::from_slice(alloc, b"A")?,
+    let name = Lexeme {
+        text: Name::from_slice(alloc, b"A")?,
         span: Span { start: 6, end: 7 },
     };
     let mut types = Items::new(alloc);

@@ -1,10 +1,10 @@
 ghost use Rattle.std.specs.Prelude.{IfOk};
 ghost use Rattle.std.specs.Str.{IsAscii};
-ghost use Rattle.java_tree.specs.Names.{AsciiNames};
+ghost use Rattle.first_form.specs.WrittenNames.{AsciiNames};
 
 use desk_base::{Items, Name, OutOfMemory, Span};
 use first_judge::{ClassFile, Parts};
-use java_tree::{Annot, ClassTree, Elements, Mod, TypeKind, Word};
+use java_tree::{Annot, ClassTree, Elements, Mod, TypeKind, Lexeme};
 use report::report_text;
 use std::alloc::Global;
 use std::test::Fail;
@@ -25,8 +25,8 @@ fn locked_class(alloc: Global, name: &[u8]) -> Result<ClassTree, OutOfMemory>
     Ok(ClassTree {
         mods,
         kind: TypeKind::Class,
-        name: Word {
-            name: Name::from_slice(alloc, name)?,
+        name: Lexeme {
+            text: Name::from_slice(alloc, name)?,
             span: NOWHERE,
         },
         implements: Items::new(alloc),

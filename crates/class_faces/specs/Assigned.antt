@@ -22,7 +22,7 @@ abbrev pub Names : Type 0
 Names = List (List ℕ)
 
 abbrev pub bare_name : Expr-F Expr → Names
-bare_name (Expr-F.Name word) = word.name ∷ []
+bare_name (Expr-F.Name word) = word.text ∷ []
 bare_name _ = []
 
 abbrev pub by_action : Action → Names

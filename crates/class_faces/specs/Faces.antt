@@ -15,7 +15,7 @@ use Rattle.java_tree.specs.declared.member.Init.TheVariants as init
 use Rattle.java_tree.specs.declared.member.Field.{Field}
 use Rattle.java_tree.specs.declared.member.Param.{Param}
 use Rattle.java_tree.specs.declared.member.Sig.{Sig}
-use Rattle.java_tree.specs.declared.token.Word.{Word}
+use Rattle.java_tree.specs.declared.token.Lexeme.{Lexeme}
 use Rattle.java_tree.specs.declared.member.MemberTree.{MemberTree}
 use Rattle.java_tree.specs.declared.member.MemberTree.TheVariants as member
 use Rattle.class_faces.specs.declared.face.FaceTy.{FaceTy}
@@ -29,7 +29,7 @@ use Rattle.class_faces.specs.Keys.{slot_of, key_with, times}
 abbrev pub face_ty : Ty → FaceTy
 face_ty (ty.Int at) = face.Int
 face_ty (ty.Boolean at) = face.Bool
-face_ty (ty.Named word) = face.Named word.name
+face_ty (ty.Named word) = face.Named word.text
 
 abbrev pub is_static_word : Mod → Bool
 is_static_word (modifier.Word modword.Static at) = true
@@ -49,7 +49,7 @@ is_final mods = list_any is_final_word mods
 abbrev pub is_object : Ty → Bool
 is_object (ty.Int at) = false
 is_object (ty.Boolean at) = false
-is_object (ty.Named word) = bytes_eq word.name (codes "Object")
+is_object (ty.Named word) = bytes_eq word.text (codes "Object")
 
 -- the initializer is `new Object()`
 abbrev pub is_fresh : Option Init → Bool
@@ -58,7 +58,7 @@ is_fresh _ = false
 
 abbrev pub field_face : Field → FieldFace
 field_face f = record {
-  name = f.name.name;
+  name = f.name.text;
   ty = face_ty f.ty;
   is_static = is_static f.mods;
   is_final = is_final f.mods;
@@ -81,11 +81,11 @@ field_faces class = fields_of class.members
 
 -- a parameter of a member whose body assigns to these names
 abbrev pub param_face : Names → Param → ParamFace
-param_face assigned p = record { name = p.name.name; ty = face_ty p.ty; effectively_final = not (is_among p.name.name assigned) }
+param_face assigned p = record { name = p.name.text; ty = face_ty p.ty; effectively_final = not (is_among p.name.text assigned) }
 
 -- the parameter of a main
-abbrev pub main_face : Word → ParamFace
-main_face word = record { name = word.name; ty = face.Args; effectively_final = true }
+abbrev pub main_face : Lexeme → ParamFace
+main_face word = record { name = word.text; ty = face.Args; effectively_final = true }
 
 -- an interface method under its key
 abbrev pub sig_face : List ℕ → Sig → Option MemberFace
@@ -127,7 +127,7 @@ faces_after class slots (m ∷ ms) =
 
 -- the methods, interface methods, constructors and mains of a class, in written order
 abbrev pub member_faces : ClassTree → List MemberFace
-member_faces class = faces_after class.name.name [] class.members
+member_faces class = faces_after class.name.text [] class.members
 
 -- the set has these names and no others
 pub record Holds (set : BTreeSet (List ℕ)) (names : Names) : Type 0 where

@@ -20,17 +20,17 @@ counted name count = name ++ (codes "/" ++ decimal count)
 -- what members of one name have in common: a field its name, a method its name and number of
 -- parameters, each constructor the word `new`
 abbrev pub slot_of : MemberTree → List ℕ
-slot_of (member.Field f) = f.name.name
-slot_of (member.Method m) = counted m.name.name (length m.params)
-slot_of (member.Sig s) = counted s.name.name (length s.params)
+slot_of (member.Field f) = f.name.text
+slot_of (member.Method m) = counted m.name.text (length m.params)
+slot_of (member.Sig s) = counted s.name.text (length s.params)
 slot_of (member.Ctor c) = codes "new"
 slot_of (member.Main m) = counted (codes "main") 1
 
 -- a member's key without its class
 abbrev pub short_key : MemberTree → List ℕ
-short_key (member.Field f) = f.name.name
-short_key (member.Method m) = counted m.name.name (length m.params)
-short_key (member.Sig s) = counted s.name.name (length s.params)
+short_key (member.Field f) = f.name.text
+short_key (member.Method m) = counted m.name.text (length m.params)
+short_key (member.Sig s) = counted s.name.text (length s.params)
 short_key (member.Ctor c) = counted (codes "new") (length c.params)
 short_key (member.Main m) = counted (codes "main") 1
 
@@ -53,7 +53,7 @@ keys_after class slots (m ∷ ms) = key_with class m (times slots (slot_of m) + 
 
 -- the keys of the members of a class, in written order
 abbrev pub member_keys : ClassTree → List (List ℕ)
-member_keys class = keys_after class.name.name [] class.members
+member_keys class = keys_after class.name.text [] class.members
 
 -- a name of ASCII is its own text
 abbrev pub IsAsWritten : List ℕ → Type 0

@@ -13,7 +13,7 @@ fn put_target(names: &mut BTreeSet<Name>, target: &Expr) -> Result<(), OutOfMemo
 {
     match target {
         Expr::Name(word) => {
-            names.insert(word.name.clone()?)?;
+            names.insert(word.text.clone()?)?;
             Ok(())
         }
         _ => Ok(()),

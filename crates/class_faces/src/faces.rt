@@ -9,7 +9,7 @@ use crate::assigned::put_block;
 use crate::face::{FaceTy, FieldFace, MemberFace, ParamFace};
 use crate::key::next_key;
 use desk_base::{Items, Name, OutOfMemory, Text};
-use java_tree::{Block, ClassTree, Field, Init, MemberTree, Mod, ModWord, Param, Sig, Ty, Word};
+use java_tree::{Block, ClassTree, Field, Init, Lexeme, MemberTree, Mod, ModWord, Param, Sig, Ty};
 use std::alloc::Global;
 use std::collections::{BTreeMap, BTreeSet};
 
@@ -20,7 +20,7 @@ pub fn face_ty(ty: &Ty) -> Result<FaceTy, OutOfMemory>
     match ty {
         Ty::Int(_) => Ok(FaceTy::Int),
         Ty::Boolean(_) => Ok(FaceTy::Bool),
-        Ty::Named(word) => Ok(FaceTy::Named(word.name.clone()?)),
+        Ty::Named(word) => Ok(FaceTy::Named(word.text.clone()?)),
     }
 }
 
@@ -45,7 +45,7 @@ fn is_object(ty: &Ty) -> bool
     match ty {
         Ty::Int(_) => false,
         Ty::Boolean(_) => false,
-        Ty::Named(word) => word.name.as_slice() == b"Object".as_slice(),
+        Ty::Named(word) => word.text.as_slice() == b"Object".as_slice(),
     }
 }
 
@@ -60,7 +60,7 @@ fn field_face(field: &Field) -> Result<FieldFace, OutOfMemory>
 {
     let is_final = is_final(field.mods.as_slice());
     Ok(FieldFace {
-        name: field.name.name.clone()?,
+        name: field.name.text.clone()?,
         ty: face_ty(&field.ty)?,
         is_static: is_static(field.mods.as_slice()),
         is_final,
@@ -95,9 +95,9 @@ fn param_face(assigned: &BTreeSet<Name>, param: &Param) -> Result<ParamFace, Out
     ensures { IfOk result (λ face. (names : Names) → Holds assigned.now names → face ≡ spec.param_face names param.now) }
 {
     Ok(ParamFace {
-        name: param.name.name.clone()?,
+        name: param.name.text.clone()?,
         ty: face_ty(&param.ty)?,
-        effectively_final: !assigned.contains(&param.name.name),
+        effectively_final: !assigned.contains(&param.name.text),
     })
 }
 
@@ -124,11 +124,11 @@ fn result_face(result_type: &Option<Ty>) -> Result<Option<FaceTy>, OutOfMemory>
     }
 }
 
-fn main_face(word: &Word) -> Result<ParamFace, OutOfMemory>
+fn main_face(word: &Lexeme) -> Result<ParamFace, OutOfMemory>
     ensures { IfOk result (λ face. face ≡ spec.main_face word.now) }
 {
     Ok(ParamFace {
-        name: word.name.clone()?,
+        name: word.text.clone()?,
         ty: FaceTy::Args,
         effectively_final: true,
     })
@@ -204,7 +204,7 @@ pub fn member_faces(alloc: Global, class: &ClassTree) -> Result<Items<MemberFace
     let mut counts = BTreeMap::new(alloc);
     let mut faces = Items::new(alloc);
     for member in class.members.as_slice() {
-        let key = next_key(alloc, &mut counts, class.name.name.as_slice(), member)?;
+        let key = next_key(alloc, &mut counts, class.name.text.as_slice(), member)?;
         let face = member_face(alloc, key, member)?;
         put_face(&mut faces, face)?;
     }

@@ -43,11 +43,11 @@ fn slot_of(alloc: Global, member: &MemberTree) -> Result<Bytes, OutOfMemory>
     ensures { IfOk result (λ slot. slot ≡ spec.slot_of member.now) }
 {
     match member {
-        MemberTree::Field(field) => Bytes::from_slice(alloc, field.name.name.as_slice()),
+        MemberTree::Field(field) => Bytes::from_slice(alloc, field.name.text.as_slice()),
         MemberTree::Method(method) => {
-            counted(alloc, method.name.name.as_slice(), method.params.len())
+            counted(alloc, method.name.text.as_slice(), method.params.len())
         }
-        MemberTree::Sig(sig) => counted(alloc, sig.name.name.as_slice(), sig.params.len()),
+        MemberTree::Sig(sig) => counted(alloc, sig.name.text.as_slice(), sig.params.len()),
         MemberTree::Ctor(_) => Bytes::from_slice(alloc, b"new"),
         MemberTree::Main(_) => counted(alloc, b"main", 1),
     }
@@ -119,7 +119,7 @@ pub fn member_keys(alloc: Global, class: &ClassTree) -> Result<Items<Text>, OutO
     let mut counts = BTreeMap::new(alloc);
     let mut keys = Items::new(alloc);
     for member in class.members.as_slice() {
-        let key = next_key(alloc, &mut counts, class.name.name.as_slice(), member)?;
+        let key = next_key(alloc, &mut counts, class.name.text.as_slice(), member)?;
         keys.push(key)?;
     }
     Ok(keys)

@@ -45,7 +45,7 @@ impl PromiseName {
 
 /// Which promise: the unit or class that it is a promise of, its kind, and what tells it from
 /// others of that kind there. `Program` has an empty target and an empty detail.
-#[derive(Clone, Debug, PartialEq, Eq, Drop)]
+#[derive(Clone, Debug, PartialEq, Eq, PartialOrd, Ord, Drop)]
 pub struct PromiseKey {
     pub target: Text,
     pub name: PromiseName,

@@ -18,7 +18,7 @@ use Rattle.java_tree.specs.declared.member.MemberTree.{MemberTree}
 use Rattle.java_tree.specs.declared.member.MemberTree.TheVariants as tree
 use Rattle.java_tree.specs.declared.file.ClassTree.{ClassTree}
 use Rattle.java_tree.specs.declared.file.FileTree.{FileTree}
-use Rattle.java_tree.specs.Names.{names_of_expr, names_of_action, names_of_stmt, names_of_item, names_of_member, AsciiNames}
+use Rattle.first_form.specs.WrittenNames.{names_of_expr, names_of_action, names_of_stmt, names_of_item, names_of_member, AsciiNames}
 use Rattle.first_form.specs.FirstForm.{IsTargetAt, IsValueAt, IsAction, IsAssignStmt, IsReturnStmt, IsAssignAt, IsReturnAt, IsAssign, IsBody, IsMember, IsFirstClass, IsFirstForm, IsOneClass, field_names, field_name}
 use Rattle.first_form.proofs.FormLemmas.{members_along}
 
@@ -90,7 +90,7 @@ fields Known [] h = λ k d below. absurd (omega arith)
 fields Known (m ∷ ms) h = one m (h 0 m (omega arith)) (fields Known ms (All-tail (IsMember Known) m ms h))
   where
     one : (m : MemberTree) → IsMember Known m → All IsAscii (filter_map field_name ms) → All IsAscii (filter_map field_name (m ∷ ms))
-    one (tree.Field f) here others = All-cons IsAscii f.name.name (filter_map field_name ms) here.named.1 others
+    one (tree.Field f) here others = All-cons IsAscii f.name.text (filter_map field_name ms) here.named.1 others
     one (tree.Method m) here others = others
     one _ here others = absurd here
 

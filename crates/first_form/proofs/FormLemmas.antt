@@ -110,12 +110,12 @@ known_more xs i x old new within at after known name =
 
 module _ (A B : List ℕ → Type 0) (goes : (name : List ℕ) → A name → B name) where
   target : (e : Expr-F Expr) → IsTargetAt A e → IsTargetAt B e
-  target (Expr-F.Name word) h = goes word.name h
+  target (Expr-F.Name word) h = goes word.text h
   target _ h = absurd h
 
   value : (e : Expr-F Expr) → IsValueAt A e → IsValueAt B e
   value (Expr-F.Int word) h = h
-  value (Expr-F.Name word) h = goes word.name h
+  value (Expr-F.Name word) h = goes word.text h
   value _ h = absurd h
 
   acts : (a : Action) → IsAction A a → IsAction B a

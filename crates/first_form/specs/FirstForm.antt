@@ -4,7 +4,7 @@
 use Rattle.std.specs.Prelude.{◌≡◌, ◌≢◌, ◌⊎◌, ℕ, ◌+◌, ◌-◌, ◌*◌, ◌≤◌, List, [], ◌∷◌, length, ◌++◌, fold, Option, Some, None, codes, All, AllPairs, Contains}
 use Rattle.std.specs.List.{filter_map}
 use Rattle.std.specs.Str.{IsAscii}
-use Rattle.java_tree.specs.declared.token.Word.{Word}
+use Rattle.java_tree.specs.declared.token.Lexeme.{Lexeme}
 use Rattle.java_tree.specs.declared.expr.Expr.{Expr, out-Expr}
 use Rattle.java_tree.specs.declared.expr.Expr.TheOpen.{Expr-F}
 use Rattle.java_tree.specs.declared.stmt.AssignOp.{AssignOp}
@@ -35,16 +35,16 @@ use Rattle.java_tree.specs.declared.file.FileTree.{FileTree}
 -- ---- names and numbers
 
 -- at most 64 bytes, all of ASCII
-abbrev pub IsName : Word → Type 0
-IsName word = (length word.name ≤ 64) × IsAscii word.name
+abbrev pub IsName : Lexeme → Type 0
+IsName word = (length word.text ≤ 64) × IsAscii word.text
 
 -- the number that decimal digits say
 abbrev pub decimal_value : List ℕ → ℕ
 decimal_value = fold (λ n digit. 10 * n + (digit - 48)) 0
 
 -- at most the largest `int`
-abbrev pub IsInt : Word → Type 0
-IsInt word = decimal_value word.name ≤ 2147483647
+abbrev pub IsInt : Lexeme → Type 0
+IsInt word = decimal_value word.text ≤ 2147483647
 
 -- the types of the library, which a declared class doesn't name anew
 abbrev pub IsLibraryName : List ℕ → Type 0
@@ -53,7 +53,7 @@ IsLibraryName name = (name ≡ codes "Object") ⊎ ((name ≡ codes "String") �
 -- ---- assignments and returns. Known says of a name that it is a field.
 
 abbrev pub IsTargetAt : (List ℕ → Type 0) → Expr-F Expr → Type 0
-IsTargetAt Known (Expr-F.Name word) = Known word.name
+IsTargetAt Known (Expr-F.Name word) = Known word.text
 IsTargetAt Known _ = ⊥
 
 -- a field's name
@@ -62,7 +62,7 @@ IsTarget Known e = IsTargetAt Known (out-Expr e)
 
 abbrev pub IsValueAt : (List ℕ → Type 0) → Expr-F Expr → Type 0
 IsValueAt Known (Expr-F.Int word) = IsInt word
-IsValueAt Known (Expr-F.Name word) = Known word.name
+IsValueAt Known (Expr-F.Name word) = Known word.text
 IsValueAt Known _ = ⊥
 
 -- a number or a field's name
@@ -121,11 +121,11 @@ IsBody Known (Some type) items = EndsWithReturn Known items
 -- ---- members
 
 abbrev pub field_name : MemberTree → Option (List ℕ)
-field_name (member.Field f) = Some f.name.name
+field_name (member.Field f) = Some f.name.text
 field_name _ = None
 
 abbrev pub method_name : MemberTree → Option (List ℕ)
-method_name (member.Method m) = Some m.name.name
+method_name (member.Method m) = Some m.name.text
 method_name _ = None
 
 abbrev pub IsIntType : Ty → Type 0
@@ -171,7 +171,7 @@ abbrev pub lock_text : List ℕ
 lock_text = 34 ∷ codes "L is this protects Instance" ++ 34 ∷ []
 
 abbrev pub IsElemAt : Elem-F Elem Elements Annot → Type 0
-IsElemAt (Elem-F.Str text) = text.name ≡ lock_text
+IsElemAt (Elem-F.Str text) = text.text ≡ lock_text
 IsElemAt _ = ⊥
 
 abbrev pub IsElem : Elem → Type 0
@@ -185,8 +185,8 @@ abbrev pub AreElements : Elements → Type 0
 AreElements elements = AreElementsAt (out-Elements elements)
 
 -- the simple name of the lock's annotation
-abbrev pub IsLockName : List Word → Type 0
-IsLockName (word ∷ []) = word.name ≡ codes "RegionLock"
+abbrev pub IsLockName : List Lexeme → Type 0
+IsLockName (word ∷ []) = word.text ≡ codes "RegionLock"
 IsLockName _ = ⊥
 
 abbrev pub IsLock : Mod → Type 0
@@ -212,7 +212,7 @@ pub record IsHeader (c : ClassTree) : Type 0 where
   pub locks : AreLocks c.mods
   pub class : c.kind ≡ sort.Class
   pub named : IsName c.name
-  pub free : ¬ IsLibraryName c.name.name
+  pub free : ¬ IsLibraryName c.name.text
   pub alone : c.implements ≡ []
 
 -- No two fields have one name, nor have two methods; the header and each member meet their conditions.

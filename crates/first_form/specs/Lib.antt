@@ -1,2 +1,3 @@
 pub mod FirstForm
 pub mod Names
+pub mod WrittenNames

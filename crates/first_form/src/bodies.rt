@@ -13,7 +13,7 @@ fn is_target<'a>(fields: &Names<'a>, target: &'a Expr) -> bool
     ensures { IsTrue result ↔ spec.IsTarget (λ name. IsTrue (knows fields.now name)) target.now }
 {
     match target {
-        Expr::Name(word) => fields.has(word.name.as_slice()),
+        Expr::Name(word) => fields.has(word.text.as_slice()),
         _ => false,
     }
 }
@@ -23,7 +23,7 @@ fn is_value<'a>(fields: &Names<'a>, value: &'a Expr) -> bool
 {
     match value {
         Expr::Int(word) => is_int(word),
-        Expr::Name(word) => fields.has(word.name.as_slice()),
+        Expr::Name(word) => fields.has(word.text.as_slice()),
         _ => false,
     }
 }

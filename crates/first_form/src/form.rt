@@ -19,7 +19,7 @@ fn field_names<'a>(alloc: Global, members: &'a [MemberTree]) -> Result<Vec<&'a [
     let mut names = Vec::new(alloc);
     for member in members {
         if let MemberTree::Field(field) = member {
-            names.push(field.name.name.as_slice())?;
+            names.push(field.name.text.as_slice())?;
         }
     }
     Ok(names)
@@ -31,7 +31,7 @@ fn method_names<'a>(alloc: Global, members: &'a [MemberTree]) -> Result<Vec<&'a 
     let mut names = Vec::new(alloc);
     for member in members {
         if let MemberTree::Method(method) = member {
-            names.push(method.name.name.as_slice())?;
+            names.push(method.name.text.as_slice())?;
         }
     }
     Ok(names)
@@ -66,7 +66,7 @@ fn is_header(class: &ClassTree) -> bool
     are_locks(class.mods.as_slice())
         && is_class_word(class.kind)
         && is_name(&class.name)
-        && !is_library_name(class.name.name.as_slice())
+        && !is_library_name(class.name.text.as_slice())
         && class.implements.is_empty()
 }
 

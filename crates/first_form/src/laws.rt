@@ -2,7 +2,7 @@
 
 ghost use Rattle.std.specs.Prelude.{All};
 ghost use Rattle.java_tree.specs.declared.file.FileTree.{FileTree};
-ghost use Rattle.java_tree.specs.Names.{AsciiNames};
+ghost use Rattle.first_form.specs.WrittenNames.{AsciiNames};
 ghost use Rattle.first_form.specs.FirstForm.{IsFirstForm};
 
 /// The names of a file of the form are of ASCII: that of its class, and all that its members are made

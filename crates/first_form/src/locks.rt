@@ -3,7 +3,7 @@
 ghost use Rattle.std.specs.Prelude.{◌↔◌, IsTrue};
 ghost use Rattle.first_form.specs.FirstForm as spec;
 
-use java_tree::{Elem, Elements, Mod, Word};
+use java_tree::{Elem, Elements, Lexeme, Mod};
 
 /// The text of the one lock promise of the form, as a string is written.
 const LOCK_TEXT: &[u8] = b"\"L is this protects Instance\"";
@@ -12,7 +12,7 @@ fn is_elem(elem: &Elem) -> bool
     ensures { IsTrue result ↔ spec.IsElem elem.now }
 {
     match elem {
-        Elem::Str(text) => text.name.as_slice() == LOCK_TEXT,
+        Elem::Str(text) => text.text.as_slice() == LOCK_TEXT,
         Elem::Annot(_) => false,
     }
 }
@@ -26,11 +26,11 @@ fn are_elements(elements: &Elements) -> bool
     }
 }
 
-fn is_lock_name(name: &[Word]) -> bool
+fn is_lock_name(name: &[Lexeme]) -> bool
     ensures { IsTrue result ↔ spec.IsLockName name.now }
 {
     match name {
-        [word] => word.name.as_slice() == b"RegionLock".as_slice(),
+        [word] => word.text.as_slice() == b"RegionLock".as_slice(),
         _ => false,
     }
 }

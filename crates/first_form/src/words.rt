@@ -4,7 +4,7 @@ ghost use Rattle.std.specs.Prelude.{◌≡◌, ◌↔◌, ◌<◌, IsTrue, EachI
 ghost use Rattle.std.specs.Str.{IsAscii};
 ghost use Rattle.first_form.specs.FirstForm as spec;
 
-use java_tree::Word;
+use java_tree::Lexeme;
 
 /// The longest name, in bytes.
 const NAME_BYTES: usize = 64;
@@ -24,10 +24,10 @@ fn is_ascii(bytes: &[u8]) -> bool
     are_ascii(bytes)
 }
 
-pub(crate) fn is_name(word: &Word) -> bool
+pub(crate) fn is_name(word: &Lexeme) -> bool
     ensures { IsTrue result ↔ spec.IsName word.now }
 {
-    word.name.len() <= NAME_BYTES && is_ascii(word.name.as_slice())
+    word.text.len() <= NAME_BYTES && is_ascii(word.text.as_slice())
 }
 
 /// The number that decimal digits say, or one more than the largest `int` where it is more.
@@ -41,10 +41,10 @@ fn capped_value(digits: &[u8]) -> u64
     value
 }
 
-pub(crate) fn is_int(word: &Word) -> bool
+pub(crate) fn is_int(word: &Lexeme) -> bool
     ensures { IsTrue result ↔ spec.IsInt word.now }
 {
-    capped_value(word.name.as_slice()) <= LARGEST_INT
+    capped_value(word.text.as_slice()) <= LARGEST_INT
 }
 
 /// Whether the name is that of a type of the library.

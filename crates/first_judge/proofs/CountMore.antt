@@ -4,7 +4,7 @@ use Rattle.std.specs.List.{sum_by}
 use Rattle.std.proofs.lemmas.List.Concat.{flat_map-cons, length-flat_map}
 use Rattle.std.proofs.lemmas.List.Sums.{sum_by-cons, sum_by_push}
 use Rattle.java_tree.specs.declared.expr.Expr.{out-Expr}
-use Rattle.java_tree.specs.declared.token.Word.{Word}
+use Rattle.java_tree.specs.declared.token.Lexeme.{Lexeme}
 use Rattle.java_tree.specs.declared.stmt.AssignOp.{AssignOp}
 use Rattle.java_tree.specs.declared.stmt.AssignOp.TheVariants as op
 use Rattle.java_tree.specs.declared.stmt.Action.{Action}
@@ -23,11 +23,11 @@ use Rattle.first_judge.specs.Counts.{findings_of, finding_count, item_count, mem
 
 -- ---- an item has as many accesses wherever it stands
 
-value_place : (a b : ℕ) (o : Option Word) → length (value_reads a o) ≡ length (value_reads b o)
+value_place : (a b : ℕ) (o : Option Lexeme) → length (value_reads a o) ≡ length (value_reads b o)
 value_place a b None = refl
 value_place a b (Some word) = refl
 
-target_place : (sign : AssignOp) (a b : ℕ) (o : Option Word) → length (target_uses sign a o) ≡ length (target_uses sign b o)
+target_place : (sign : AssignOp) (a b : ℕ) (o : Option Lexeme) → length (target_uses sign a o) ≡ length (target_uses sign b o)
 target_place sign a b None = refl
 target_place op.Set a b (Some word) = refl
 target_place op.Add a b (Some word) = refl
@@ -82,8 +82,8 @@ members_length path text class (tree.Sig s ∷ members) = omega (arith, members_
 members_length path text class (tree.Ctor s ∷ members) = omega (arith, members_length path text class members, sum_by-cons member_count (tree.Ctor s) members)
 members_length path text class (tree.Main s ∷ members) = omega (arith, members_length path text class members, sum_by-cons member_count (tree.Main s) members)
 
-class_by : (locked : Bool) (f : ClassText) → length (cond locked (rows_of (units_with f.path f.text f.class.name.name f.class.members)) []) ≡ cond locked (sum_by member_count f.class.members) 0
-class_by true f = members_length f.path f.text f.class.name.name f.class.members
+class_by : (locked : Bool) (f : ClassText) → length (cond locked (rows_of (units_with f.path f.text f.class.name.text f.class.members)) []) ≡ cond locked (sum_by member_count f.class.members) 0
+class_by true f = members_length f.path f.text f.class.name.text f.class.members
 class_by false f = refl
 
 pub class_length : (f : ClassText) → length (findings_of f) ≡ class_count f.class

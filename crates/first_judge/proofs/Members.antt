@@ -3,7 +3,7 @@ use Rattle.std.proofs.Common.{◌≡◌, ℕ, ◌+◌, ◌<◌, List, [], ◌∷
 use Rattle.std.specs.List.{flat_map, filter_map}
 use Rattle.std.proofs.lemmas.List.{drop_more, map-append}
 use Rattle.std.proofs.lemmas.List.Elements.{filter_map-append}
-use Rattle.java_tree.specs.Names.{names_of_member}
+use Rattle.first_form.specs.WrittenNames.{names_of_member}
 use Rattle.java_tree.specs.declared.member.MemberTree.{MemberTree}
 use Rattle.first_judge.specs.declared.rows.UnitRows.{UnitRows}
 use Rattle.first_judge.specs.Findings.{units_with, unit_of, method_of}

@@ -16,7 +16,7 @@ use Rattle.java_tree.specs.declared.stmt.BlockItem.{BlockItem, out-BlockItem}
 use Rattle.java_tree.specs.declared.stmt.BlockItem.TheOpen.{Stmt-F, BlockItem-F}
 use Rattle.java_tree.specs.declared.member.Method.{Method}
 use Rattle.java_tree.specs.declared.member.MemberTree.{MemberTree}
-use Rattle.java_tree.specs.Names.{names_of_expr, names_of_action, names_of_stmt, names_of_item, names_of_method, names_of_member}
+use Rattle.first_form.specs.WrittenNames.{names_of_expr, names_of_action, names_of_stmt, names_of_item, names_of_method, names_of_member}
 use Rattle.first_judge.specs.Accesses.{Access, name_of, value_reads, target_uses, action_uses, stmt_uses, item_uses, items_uses, method_uses, head_tokens}
 use Rattle.first_judge.specs.Seen.{all_seen}
 use Rattle.first_judge.specs.declared.accesses.Access.{Access as Kept}
@@ -25,7 +25,7 @@ abbrev pub Ascii : List (List ℕ) → Type 0
 Ascii names = AllByRecursion IsAscii names
 
 abbrev Named : List Access → Type 0
-Named uses = AllByRecursion (λ a. IsAscii a.word.name) uses
+Named uses = AllByRecursion (λ a. IsAscii a.word.text) uses
 
 left_of : (xs ys : List (List ℕ)) → Ascii (xs ++ ys) → Ascii xs
 left_of [] ys h = tt
@@ -75,13 +75,13 @@ items_named before (item ∷ items) h =
     (item_named before (out-BlockItem item) (left_of here others split))
     (items_named (before + 4) items (right_of here others split))
 
-kept : (list : List Kept) → Named (all_seen list) → AllByRecursion (λ a. IsAscii a.word.now.name) list
+kept : (list : List Kept) → Named (all_seen list) → AllByRecursion (λ a. IsAscii a.word.now.text) list
 kept [] h = tt
 kept (a ∷ list) h = (h.0, kept list h.1)
 
-pub names_seen : (m : Method) (list : List Kept) → Ascii (names_of_method m) → all_seen list ≡ method_uses m → All (λ a. IsAscii a.word.now.name) list
+pub names_seen : (m : Method) (list : List Kept) → Ascii (names_of_method m) → all_seen list ≡ method_uses m → All (λ a. IsAscii a.word.now.text) list
 names_seen m list ascii is =
-    All-from_recursion (λ a. IsAscii a.word.now.name) list (kept list (subst Named (sym is) (items_named (head_tokens m) (out-Block m.body).items ascii.1)))
+    All-from_recursion (λ a. IsAscii a.word.now.text) list (kept list (subst Named (sym is) (items_named (head_tokens m) (out-Block m.body).items ascii.1)))
 
 -- the names of one more member, and those of the members after it
 pub names_split : (member : MemberTree) (members : List MemberTree) → Ascii (flat_map names_of_member (member ∷ members)) → Ascii (names_of_member member) × Ascii (flat_map names_of_member members)

@@ -1,7 +1,7 @@
 -- The reads and writes of fields that a method makes, in order of place.
 use Rattle.std.specs.Prelude.{ℕ, ◌+◌, Bool, true, false, List, [], ◌∷◌, ◌++◌, Option, Some, None, length}
 use Rattle.std.specs.List.{list_any}
-use Rattle.java_tree.specs.declared.token.Word.{Word}
+use Rattle.java_tree.specs.declared.token.Lexeme.{Lexeme}
 use Rattle.java_tree.specs.declared.expr.Expr.{Expr, out-Expr}
 use Rattle.java_tree.specs.declared.expr.Expr.TheOpen.{Expr-F}
 use Rattle.java_tree.specs.declared.stmt.AssignOp.{AssignOp}
@@ -21,23 +21,23 @@ use Rattle.java_tree.specs.declared.member.Method.{Method}
 pub record Access : Type 0 where
   pub writes : Bool
   pub place : ℕ
-  pub word : Word
+  pub word : Lexeme
 
-abbrev pub access : Bool → ℕ → Word → Access
+abbrev pub access : Bool → ℕ → Lexeme → Access
 access writes place word = record { writes = writes; place = place; word = word }
 
 -- the name that an expression is, if it is one
-abbrev pub name_of : Expr-F Expr → Option Word
+abbrev pub name_of : Expr-F Expr → Option Lexeme
 name_of (Expr-F.Name word) = Some word
 name_of _ = None
 
 -- a value reads the field that it names
-abbrev pub value_reads : ℕ → Option Word → List Access
+abbrev pub value_reads : ℕ → Option Lexeme → List Access
 value_reads place None = []
 value_reads place (Some word) = access false place word ∷ []
 
 -- an assignment writes the field that it names; a compound one reads it first
-abbrev pub target_uses : AssignOp → ℕ → Option Word → List Access
+abbrev pub target_uses : AssignOp → ℕ → Option Lexeme → List Access
 target_uses sign place None = []
 target_uses op.Set place (Some word) = access true place word ∷ []
 target_uses op.Add place (Some word) = access false place word ∷ access true place word ∷ []

@@ -42,7 +42,7 @@ has_lock class = list_any is_annotation class.mods
 
 -- the key of a method: class, name and number of parameters
 abbrev pub unit_key : List ℕ → Method → List ℕ
-unit_key class m = class ++ codes "." ++ m.name.name ++ codes "/" ++ decimal (length m.params)
+unit_key class m = class ++ codes "." ++ m.name.text ++ codes "/" ++ decimal (length m.params)
 
 abbrev pub same_kind : Bool → Bool → Bool
 same_kind true true = true
@@ -63,7 +63,7 @@ row_with path class unit held number line a = record {
   finding = record {
     key = record { code = code_of a.writes; number = number; unit = unit; on = lock_key class };
     place = a.place;
-    subject = a.word.name;
+    subject = a.word.text;
     alternatives = alternatives_of held;
   };
   path = path;
@@ -97,7 +97,7 @@ abbrev pub units_with : List ℕ → List ℕ → List ℕ → List MemberTree �
 units_with path text class members = map (unit_of path text class) (filter_map method_of members)
 
 abbrev pub units_of : List ℕ → List ℕ → ClassTree → List UnitRows
-units_of path text class = units_with path text class.name.name class.members
+units_of path text class = units_with path text class.name.text class.members
 
 -- one unit's key comes before another's
 abbrev pub before : UnitRows → UnitRows → Bool

@@ -26,7 +26,7 @@ no_part = record { units = []; lock = None }
 
 -- Its methods are in order, and the first of their findings that fails is to blame.
 abbrev pub part_with : ClassText → List UnitRows → Part
-part_with f units = record { units = units; lock = Some (lock_row f.class.name.name (find (λ r. r.fails) (rows_of units))) }
+part_with f units = record { units = units; lock = Some (lock_row f.class.name.text (find (λ r. r.fails) (rows_of units))) }
 
 -- a class without the annotation adds nothing
 abbrev pub IsPartBy : Bool → ClassText → Part → Type 0

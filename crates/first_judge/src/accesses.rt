@@ -7,7 +7,7 @@ ghost use Rattle.first_judge.specs.Accesses.{access, name_of, action_uses, stmt_
 ghost use Rattle.first_judge.specs.Seen.{all_seen};
 
 use desk_base::OutOfMemory;
-use java_tree::{Action, AssignOp, BlockItem, Expr, Method, Mod, ModWord, Stmt, Word};
+use java_tree::{Action, AssignOp, BlockItem, Expr, Lexeme, Method, Mod, ModWord, Stmt};
 use std::alloc::Global;
 
 /// A read or a write of a field: the number of its token in the unit, from 1, and its name.
@@ -15,11 +15,11 @@ use std::alloc::Global;
 pub struct Access<'a> {
     pub writes: bool,
     pub place: u32,
-    pub word: &'a Word,
+    pub word: &'a Lexeme,
 }
 
 // The name that an expression is, if it is one.
-pub(crate) fn name_of(value: &Expr) -> Option<&Word>
+pub(crate) fn name_of(value: &Expr) -> Option<&Lexeme>
     ensures { option_copied result ≡ name_of (out-Expr value.now) }
 {
     match value {
@@ -50,7 +50,7 @@ fn put<'a>(
     out: &mut Vec<Access<'a>>,
     writes: bool,
     place: u32,
-    word: &'a Word,
+    word: &'a Lexeme,
 ) -> Result<(), OutOfMemory>
     ensures { OnOk result (all_seen out.new.items ≡ all_seen out.old.items ++ access writes place word.now ∷ []) }
 {

@@ -3,7 +3,7 @@
 ghost use Rattle.std.specs.Prelude.{◌≡◌, ◌+◌, ◌++◌, ◌∷◌, [], length, IfOk, OnOk};
 ghost use Rattle.std.specs.List.{AllByRecursion, flat_map};
 ghost use Rattle.std.specs.Str.{IsAscii};
-ghost use Rattle.java_tree.specs.Names.{names_of_member};
+ghost use Rattle.first_form.specs.WrittenNames.{names_of_member};
 ghost use Rattle.first_judge.specs.Findings.{has_lock, program_row, units_with, rows_of, InOrder};
 
 use crate::lines::LineCursor;

@@ -3,7 +3,7 @@
 ghost use Rattle.std.specs.Prelude.{◌≡◌, ◌+◌, ◌++◌, ◌∷◌, [], List, find, length, IfOk, OnOk};
 ghost use Rattle.std.specs.Option.{option_copied, option_to_list};
 ghost use Rattle.std.specs.Str.{IsAscii};
-ghost use Rattle.java_tree.specs.Names.{AsciiNames};
+ghost use Rattle.first_form.specs.WrittenNames.{AsciiNames};
 ghost use Rattle.first_judge.specs.Findings.{lock_row, rows_of};
 ghost use Rattle.first_judge.specs.Project.{ClassText, IsPartOf, LocksInOrder, AreAnswersOn};
 ghost use Rattle.first_judge.specs.Parts.{class_text, part_seen, AreAdded};
@@ -92,7 +92,7 @@ fn part_of(alloc: Global, file: ClassFile<'_>) -> Result<ClassPart, OutOfMemory>
     }
     let facts = ClassFacts {
         path: file.path,
-        class: &file.class.name.name,
+        class: &file.class.name.text,
     };
     let mut units = written_units(alloc, &facts, file.text, file.class.members.as_slice())?;
     sort_units(&mut units);

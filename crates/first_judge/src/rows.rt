@@ -3,7 +3,7 @@ ghost use Rattle.std.specs.List.{AllByRecursion};
 ghost use Rattle.std.specs.Str.{IsAscii};
 ghost use Rattle.first_judge.specs.Numbers.{number_after, numbers_after};
 ghost use Rattle.first_judge.specs.Findings.{lock_key, unit_key, alternatives_of, row_with, rows_with, unit_of};
-ghost use Rattle.java_tree.specs.Names.{names_of_method};
+ghost use Rattle.first_form.specs.WrittenNames.{names_of_method};
 ghost use Rattle.first_judge.specs.Seen.{seen, all_seen};
 
 use crate::accesses::{Access, accesses_of, is_synchronized};
@@ -52,13 +52,13 @@ pub fn lock_key(alloc: Global, class: &Name) -> Result<PromiseKey, OutOfMemory>
 
 fn unit_key(alloc: Global, class: &Name, method: &Method) -> Result<Text, OutOfMemory>
     requires class { IsAscii class.now }
-    requires method { IsAscii method.now.name.name }
+    requires method { IsAscii method.now.name.text }
     ensures { IfOk result (λ key. key ≡ unit_key class.now method.now) }
 {
     let mut key = name_text(alloc, class)?;
     let count = u32::try_from(method.params.len()).map_err(|_| OutOfMemory)?;
     key.append(".")?;
-    key.append(name_text(alloc, &method.name.name)?.as_str())?;
+    key.append(name_text(alloc, &method.name.text)?.as_str())?;
     key.append("/")?;
     key.put_number(u64::from(count))?;
     Ok(key)
@@ -108,7 +108,7 @@ fn row(
     line: u32,
 ) -> Result<FindingRow, OutOfMemory>
     requires class { IsAscii facts.now.class.now }
-    requires name { IsAscii access.now.word.now.name }
+    requires name { IsAscii access.now.word.now.text }
     ensures { IfOk result (λ row. row ≡ row_with facts.now.path.now facts.now.class.now unit.now held number line (seen access.now)) }
 {
     let code = if access.writes {
@@ -125,7 +125,7 @@ fn row(
     let finding = Finding {
         key,
         place: access.place,
-        subject: name_text(alloc, &access.word.name)?,
+        subject: name_text(alloc, &access.word.text)?,
         alternatives: alternatives(alloc, held)?,
     };
     Ok(FindingRow {
@@ -146,7 +146,7 @@ fn access_rows(
     accesses: &[Access<'_>],
 ) -> Result<Items<FindingRow>, OutOfMemory>
     requires class { IsAscii facts.now.class.now }
-    requires names { All (λ a. IsAscii a.word.now.name) accesses.now }
+    requires names { All (λ a. IsAscii a.word.now.text) accesses.now }
     ensures rows { IfOk result (λ rows. rows ≡ rows_with facts.now.path.now lines.old.text.now facts.now.class.now unit.now held [] (all_seen accesses.now)) }
     ensures same { lines.new.text.now ≡ lines.old.text.now }
 {

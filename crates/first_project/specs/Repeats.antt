@@ -4,7 +4,7 @@ use Rattle.std.specs.List.{Contains}
 use Rattle.first_judge.specs.Project.{ClassText}
 
 abbrev pub name_of : ClassText → List ℕ
-name_of c = c.class.name.name
+name_of c = c.class.name.text
 
 -- all types have names of their own
 abbrev pub NoRepeat : List ClassText → Type 0

@@ -45,10 +45,10 @@ impl<'a> TypeNames<'a> {
         if self.repeat.is_some() {
             return Ok(());
         }
-        let name = class.name.name.clone()?;
+        let name = class.name.text.clone()?;
         if let Some(first) = self.paths.insert(name, file.path)? {
             self.repeat = Some(Repeat {
-                name: class.name.name.clone()?,
+                name: class.name.text.clone()?,
                 first,
                 second: file.path,
             });

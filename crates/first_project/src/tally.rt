@@ -1,5 +1,5 @@
 ghost use Rattle.std.specs.Prelude.{◌≡◌, ◌++◌, ◌∷◌, [], List, OnOk, map};
-ghost use Rattle.java_tree.specs.Names.{AsciiNames};
+ghost use Rattle.first_form.specs.WrittenNames.{AsciiNames};
 ghost use Rattle.first_judge.specs.Project.{ClassText};
 ghost use Rattle.first_judge.specs.Parts.{class_text};
 ghost use Rattle.first_project.specs.Form.{IsFit};

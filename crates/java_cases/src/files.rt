@@ -494,14 +494,14 @@ fn account(rt: HostRuntime) -> Result<(), Fail> {
     assert_eq!(rt; file.imports.len(), 0);
     let class = file.types.get(0).ok_or("no class")?;
     assert_eq!(rt; class.kind, TypeKind::Class);
-    assert_eq!(rt; class.name.name.as_slice(), b"Account".as_slice());
+    assert_eq!(rt; class.name.text.as_slice(), b"Account".as_slice());
     assert_eq!(rt; class.name.span.start, 49);
     assert_eq!(rt; class.mods.len(), 1);
     assert_eq!(rt; class.tokens.len(), 7);
     let Some(MemberTree::Field(field)) = class.members.get(0) else {
         return Err("no field".into());
     };
-    assert_eq!(rt; field.name.name.as_slice(), b"n".as_slice());
+    assert_eq!(rt; field.name.text.as_slice(), b"n".as_slice());
     assert_eq!(rt; field.tokens.len(), 3);
     let Some(MemberTree::Method(method)) = class.members.get(1) else {
         return Err("no method".into());

@@ -71,7 +71,7 @@ fn reads_parts(rt: HostRuntime) -> Result<(), Fail> {
 
 fn is_text(elem: &Elem, wanted: &[u8]) -> bool {
     match elem {
-        Elem::Str(text) => text.name.as_slice() == wanted,
+        Elem::Str(text) => text.text.as_slice() == wanted,
         Elem::Annot(_) => false,
     }
 }

@@ -41,7 +41,7 @@ fn reads_tokens(rt: HostRuntime) -> Result<(), Fail> {
     assert!(rt; tokens.sees_text(Kind::Name, b"x".as_slice()));
     assert!(rt; !tokens.sees_text(Kind::Name, b"y".as_slice()));
     let name = tokens.word(alloc, Kind::Name)?;
-    assert_eq!(rt; name.name.as_slice(), b"x".as_slice());
+    assert_eq!(rt; name.text.as_slice(), b"x".as_slice());
     assert_eq!(rt; tokens.next_start(), Some(6));
     assert_eq!(rt; tokens.sign(Kind::Comma), Err(SyntaxError::NotSpelled));
     assert_eq!(rt; tokens.keep(alloc).len(), 2);

@@ -8,7 +8,7 @@ use Rattle.desk_base.specs.declared.span.Span.{Span}
 use Rattle.java_tree.specs.declared.kind.Kind.{Kind}
 use Rattle.java_tree.specs.declared.kind.Kind.TheVariants as k
 use Rattle.java_tree.specs.declared.token.Token.{Token}
-use Rattle.java_tree.specs.declared.token.Word.{Word}
+use Rattle.java_tree.specs.declared.token.Lexeme.{Lexeme}
 use Rattle.java_tree.specs.declared.expr.Expr.{Expr, out-Expr, roll-Expr}
 use Rattle.java_tree.specs.declared.expr.Expr.TheOpen.{Expr-F}
 use Rattle.java_tree.specs.declared.expr.Expr.TheViews.{roll-out-Expr}
@@ -51,7 +51,7 @@ not_zero zero some = absurd (omega arith)
 not_zero (suc n) some = eqb-suc-zero n
 
 record IsSmallest (f : Expr-F Expr) (ts rest : List Token) : Type 0 where
-  word_is : Word
+  word_is : Lexeme
   is : f ≡ Expr-F.Int word_is
   sees_it : sees_smallest ts ≡ true
   read : word k.IntLiteral ts ≡ Found word_is rest
@@ -59,7 +59,7 @@ record IsSmallest (f : Expr-F Expr) (ts rest : List Token) : Type 0 where
 smallest-complete : (f : Expr-F Expr) (ts rest : List Token) → Smallest f ts rest → IsSmallest f ts rest
 unfolding sees_text
 smallest-complete (Expr-F.Int w) ts rest (big, (t, e, is, stands)) =
-    let bytes : t.bytes ≡ smallest_digits = ap (λ (v : Word). v.name) stands ∙ big in
+    let bytes : t.bytes ≡ smallest_digits = ap (λ (v : Lexeme). v.text) stands ∙ big in
     let on : bytes_eq t.bytes smallest_digits ≡ true = (bytes_eq-Decides t.bytes smallest_digits).1 bytes in
     record { word_is = w; is = refl; sees_it = rw (e, is, on) refl; read = word-complete k.IntLiteral ts rest w (t, e, is, stands) }
 smallest-complete _ ts rest s = absurd s
@@ -67,12 +67,12 @@ smallest-complete _ ts rest s = absurd s
 module _ (room : ℕ) (inner : ℕ → Parser Tall) (known : Reading-sound room inner) (complete : Reading-complete room inner) where
   -- ---- selections
 
-  select-is : (x : Tall) (w : Word) (dot : Span) (ts t1 rest : List Token) → x.height ≤ room → Sign k.Dot dot ts t1 → Spelled k.Name w t1 rest → sees k.LParen rest ≡ false
+  select-is : (x : Tall) (w : Lexeme) (dot : Span) (ts t1 rest : List Token) → x.height ≤ room → Sign k.Dot dot ts t1 → Spelled k.Name w t1 rest → sees k.LParen rest ≡ false
       → selection inner room x ts ≡ Found (tall (tree.Select x.expr w) (x.height + 1)) rest
   unfolding selection
   select-is x w dot ts t1 rest low s1 s2 free = rw (le-ltb room x.height low, sign-complete k.Dot ts t1 dot s1, word-complete k.Name t1 rest w s2, free) refl
 
-  call-is : (x : Tall) (w : Word) (a : Arguments) (dot : Span) (ts t1 t2 t3 rest : List Token) → x.height ≤ room → Sign k.Dot dot ts t1 → Spelled k.Name w t1 t2 → Mark k.LParen t2 t3 → arguments inner t2 ≡ Found a rest
+  call-is : (x : Tall) (w : Lexeme) (a : Arguments) (dot : Span) (ts t1 t2 t3 rest : List Token) → x.height ≤ room → Sign k.Dot dot ts t1 → Spelled k.Name w t1 t2 → Mark k.LParen t2 t3 → arguments inner t2 ≡ Found a rest
       → selection inner room x ts ≡ Found (tall (tree.CallOn x.expr w a.items a.closing) (max x.height a.height + 1)) rest
   unfolding selection
   call-is x w a dot ts t1 t2 t3 rest low s1 s2 open_at is =

@@ -9,7 +9,7 @@ use Rattle.desk_base.specs.declared.span.Span.{Span}
 use Rattle.java_tree.specs.declared.kind.Kind.{Kind}
 use Rattle.java_tree.specs.declared.kind.Kind.TheVariants as k
 use Rattle.java_tree.specs.declared.token.Token.{Token}
-use Rattle.java_tree.specs.declared.token.Word.{Word}
+use Rattle.java_tree.specs.declared.token.Lexeme.{Lexeme}
 use Rattle.java_tree.specs.declared.expr.Expr.{Expr, out-Expr, roll-Expr}
 use Rattle.java_tree.specs.declared.expr.Expr.TheOpen.{Expr-F}
 use Rattle.java_tree.specs.declared.expr.Expr.TheVariants as tree
@@ -152,12 +152,12 @@ no_number kind (t ∷ ts) e off = let is : t.kind ≡ kind = cc in rw (is, off) 
 opens-kind : (kind : Kind) (ts : List Token) → next_kind ts ≡ Some kind → same_kind kind k.RParen ≡ false → same_kind kind k.IntLiteral ≡ false → Opens ts
 opens-kind kind ts e a b = (sees-kind k.RParen kind ts e ∙ a, no_number kind ts e b)
 
-opens-int : (w : Word) (ts rest : List Token) → w.name ≢ smallest_digits → Spelled k.IntLiteral w ts rest → Opens ts
+opens-int : (w : Lexeme) (ts rest : List Token) → w.text ≢ smallest_digits → Spelled k.IntLiteral w ts rest → Opens ts
 unfolding sees_text
 opens-int w ts rest other (t, e, is, stands) =
-    let bytes : t.bytes ≡ w.name = ap (λ (v : Word). v.name) stands in
+    let bytes : t.bytes ≡ w.text = ap (λ (v : Lexeme). v.text) stands in
     let P : List ℕ → Type 0 = λ l. bytes_eq l smallest_digits ≡ false in
-    let off : bytes_eq t.bytes smallest_digits ≡ false = subst P (sym bytes) (other_bytes w.name smallest_digits other) in
+    let off : bytes_eq t.bytes smallest_digits ≡ false = subst P (sym bytes) (other_bytes w.text smallest_digits other) in
     (sees-kind k.RParen k.IntLiteral ts (next-word k.IntLiteral w ts rest (t, e, is, stands)), rw (e, is, off) refl)
 
 opens : (room : ℕ) (inner : (p : ℕ) (e : Expr) (ts rest : List Token) → Spells room p e ts rest → Opens ts) (p : ℕ) (f : Expr-F Expr) (ts rest : List Token) → Layered room (Spells room) p f ts rest → Opens ts
@@ -303,9 +303,9 @@ module _ (room : ℕ) (inner : ℕ → Parser Tall) (known : Reading-sound room 
 
   -- ---- leaves, calls, parentheses
 
-  class_name-complete : (w : Word) (ts rest : List Token) → w.name ≢ thread_name → Spelled k.Name w ts rest → class_name ts ≡ Found w rest
+  class_name-complete : (w : Lexeme) (ts rest : List Token) → w.text ≢ thread_name → Spelled k.Name w ts rest → class_name ts ≡ Found w rest
   unfolding class_name
-  class_name-complete w ts rest other s = rw (word-complete k.Name ts rest w s, other_bytes w.name thread_name other) refl
+  class_name-complete w ts rest other s = rw (word-complete k.Name ts rest w s, other_bytes w.text thread_name other) refl
 
   leaf-sign : (kind : Kind) (at : Span) (make : Span → Expr) (f : Expr-F Expr) (m : ℕ) (ts rest : List Token) → roll-Expr f ≡ make at → leads kind ≡ true → primary_by inner (Some kind) ≡ (sign kind >>= (λ at. pure (tall (make at) 1)))
       → Sign kind at ts rest → Leads (m + 1) (primary inner ts) (roll-Expr f) ts rest
@@ -320,7 +320,7 @@ module _ (room : ℕ) (inner : ℕ → Parser Tall) (known : Reading-sound room 
   pub primary-complete : (m p : ℕ) (f : Expr-F Expr) (ts rest : List Token) → m ≤ room → is_primary f ≡ true → Layered m (Spells m) p f ts rest → sees k.LParen rest ≡ false → Leads (m + 1) (primary inner ts) (roll-Expr f) ts rest
   unfolding primary small named created parenthesized
   primary-complete m p (Expr-F.Int w) ts rest fits is (other, s) free = record {
-    finds = record { height = 1; low = omega arith; is = rw (next-word k.IntLiteral w ts rest s, word-complete k.IntLiteral ts rest w s, other_bytes w.name smallest_digits other) (same-tree 1 rest (sym (rolls-Int w))) };
+    finds = record { height = 1; low = omega arith; is = rw (next-word k.IntLiteral w ts rest s, word-complete k.IntLiteral ts rest w s, other_bytes w.text smallest_digits other) (same-tree 1 rest (sym (rolls-Int w))) };
     kind = k.IntLiteral;
     next = next-word k.IntLiteral w ts rest s;
     leading = refl;

@@ -2,7 +2,7 @@
 use Rattle.std.proofs.Common.{◌≡◌, ℕ, suc, ◌+◌, ◌<◌, ◌≤◌, Bool, true, false, cond, nat_lt, List, length, Some, Result, Ok, Err, IfOk, refl, ◌∙◌, arith}
 use Rattle.java_tree.specs.declared.kind.Kind.TheVariants as k
 use Rattle.java_tree.specs.declared.token.Token.{Token}
-use Rattle.java_tree.specs.declared.token.Word.{Word}
+use Rattle.java_tree.specs.declared.token.Lexeme.{Lexeme}
 use Rattle.java_tree.specs.declared.expr.BinaryOp.{BinaryOp}
 use Rattle.java_phrases.specs.declared.error.SyntaxError.{SyntaxError}
 use Rattle.java_phrases.specs.declared.tokens.Tokens.{Tokens}
@@ -34,7 +34,7 @@ one_more-shorter room ts rest x y e =
     let b : length t2 < length t1 = item.shorter in
     pure-is (λ y r. length r < length ts) (with_item x z) y t2 rest e2 (omega arith)
 
-selected_shorter : (b : Bool) (room : ℕ) (x y : Tall) (w : Word) (ts rest : List Token) → selected_by (expr room) x w b ts ≡ Found y rest → length rest ≤ length ts
+selected_shorter : (b : Bool) (room : ℕ) (x y : Tall) (w : Lexeme) (ts rest : List Token) → selected_by (expr room) x w b ts ≡ Found y rest → length rest ≤ length ts
 selected_shorter true room x y w ts rest e =
     let (a, t1, is1, e1) = and_then-some (arguments (expr room) ts) _ y rest e in
     let (args, low) = arguments-sound room (expr room) (expr-sound room) ts t1 a is1 in

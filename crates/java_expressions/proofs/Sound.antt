@@ -7,7 +7,7 @@ use Rattle.desk_base.specs.declared.span.Span.{Span}
 use Rattle.java_tree.specs.declared.kind.Kind.{Kind}
 use Rattle.java_tree.specs.declared.kind.Kind.TheVariants as k
 use Rattle.java_tree.specs.declared.token.Token.{Token}
-use Rattle.java_tree.specs.declared.token.Word.{Word}
+use Rattle.java_tree.specs.declared.token.Lexeme.{Lexeme}
 use Rattle.java_tree.specs.declared.expr.Expr.{Expr, out-Expr}
 use Rattle.java_tree.specs.declared.expr.Expr.TheOpen.{Expr-F}
 use Rattle.java_tree.specs.declared.expr.Expr.TheVariants as tree
@@ -28,7 +28,7 @@ use Rattle.java_phrases.proofs.Phrases.{and_then-some, pure-is, sign-sound, word
 pub sign-shorter : (kind : Kind) (ts rest : List Token) (at : Span) → Sign kind at ts rest → length ts ≡ suc (length rest)
 sign-shorter kind ts rest at (t, e, is, stands) = ap length e
 
-pub word-shorter : (kind : Kind) (ts rest : List Token) (w : Word) → Spelled kind w ts rest → length ts ≡ suc (length rest)
+pub word-shorter : (kind : Kind) (ts rest : List Token) (w : Lexeme) → Spelled kind w ts rest → length ts ≡ suc (length rest)
 word-shorter kind ts rest w (t, e, is, stands) = ap length e
 
 -- ---- loops
@@ -103,30 +103,30 @@ leaf f e ts rest is less layer = node f e 0 8 ts rest is (omega arith) (λ n p l
 not_bytes : (b : Bool) (xs ys : List ℕ) → bytes_eq xs ys ≡ b → b ≡ false → xs ≢ ys
 not_bytes b xs ys is off same = let on = (bytes_eq-Decides xs ys).1 same in cc
 
-small_by : (w : Word) (y : Tall) (ts mid rest : List Token) (b : Bool) → Spelled k.IntLiteral w ts mid → bytes_eq w.name smallest_digits ≡ b
+small_by : (w : Lexeme) (y : Tall) (ts mid rest : List Token) (b : Bool) → Spelled k.IntLiteral w ts mid → bytes_eq w.text smallest_digits ≡ b
     → cond b fail (pure (tall (tree.Int w) 1)) mid ≡ Found y rest → IsNode 8 ts y rest
 small_by w y ts mid rest true s is e = cc
 small_by w y ts mid rest false s is e =
     pure-is (λ y r. IsNode 8 ts y r) (tall (tree.Int w) 1) y mid rest e
-    (leaf (Expr-F.Int w) (tree.Int w) ts mid (outs-Int w) (word-shorter k.IntLiteral ts mid w s) (λ n p. (not_bytes false w.name smallest_digits is refl, s)))
+    (leaf (Expr-F.Int w) (tree.Int w) ts mid (outs-Int w) (word-shorter k.IntLiteral ts mid w s) (λ n p. (not_bytes false w.text smallest_digits is refl, s)))
 
 small-sound : (ts rest : List Token) (y : Tall) → small ts ≡ Found y rest → IsNode 8 ts y rest
 unfolding small
 small-sound ts rest y e =
     let (w, mid, is, e1) = and_then-some (word k.IntLiteral ts) _ y rest e in
-    small_by w y ts mid rest (bytes_eq w.name smallest_digits) (word-sound k.IntLiteral ts mid w is) refl e1
+    small_by w y ts mid rest (bytes_eq w.text smallest_digits) (word-sound k.IntLiteral ts mid w is) refl e1
 
-class_by : (w v : Word) (ts mid rest : List Token) (b : Bool) → Spelled k.Name w ts mid → bytes_eq w.name thread_name ≡ b
-    → cond b fail (pure w) mid ≡ Found v rest → (v.name ≢ thread_name) × Spelled k.Name v ts rest
+class_by : (w v : Lexeme) (ts mid rest : List Token) (b : Bool) → Spelled k.Name w ts mid → bytes_eq w.text thread_name ≡ b
+    → cond b fail (pure w) mid ≡ Found v rest → (v.text ≢ thread_name) × Spelled k.Name v ts rest
 class_by w v ts mid rest true s is e = cc
 class_by w v ts mid rest false s is e =
-    pure-is (λ y r. (y.name ≢ thread_name) × Spelled k.Name y ts r) w v mid rest e (not_bytes false w.name thread_name is refl, s)
+    pure-is (λ y r. (y.name ≢ thread_name) × Spelled k.Name y ts r) w v mid rest e (not_bytes false w.text thread_name is refl, s)
 
-class_name-sound : (ts rest : List Token) (v : Word) → class_name ts ≡ Found v rest → (v.name ≢ thread_name) × Spelled k.Name v ts rest
+class_name-sound : (ts rest : List Token) (v : Lexeme) → class_name ts ≡ Found v rest → (v.text ≢ thread_name) × Spelled k.Name v ts rest
 unfolding class_name
 class_name-sound ts rest v e =
     let (w, mid, is, e1) = and_then-some (word k.Name ts) _ v rest e in
-    class_by w v ts mid rest (bytes_eq w.name thread_name) (word-sound k.Name ts mid w is) refl e1
+    class_by w v ts mid rest (bytes_eq w.text thread_name) (word-sound k.Name ts mid w is) refl e1
 
 -- ---- lists
 
@@ -274,7 +274,7 @@ module _ (room : ℕ) (inner : ℕ → Parser Tall) (known : Reading-sound room 
 
   -- ---- what begins a selection
 
-  pub named_by-sound : (b : Bool) (w : Word) (ts mid rest : List Token) (y : Tall) → Spelled k.Name w ts mid → named_by inner w b mid ≡ Found y rest → IsNode 8 ts y rest × (y.height ≤ room + 1)
+  pub named_by-sound : (b : Bool) (w : Lexeme) (ts mid rest : List Token) (y : Tall) → Spelled k.Name w ts mid → named_by inner w b mid ≡ Found y rest → IsNode 8 ts y rest × (y.height ≤ room + 1)
   named_by-sound true w ts mid rest y s e =
       let (a, t1, is1, e1) = and_then-some (arguments inner mid) _ y rest e in
       let (args, low) = arguments-sound mid t1 a is1 in
@@ -331,7 +331,7 @@ module _ (room : ℕ) (inner : ℕ → Parser Tall) (known : Reading-sound room 
   leaf-low : (ts rest : List Token) (y : Tall) → IsNode 8 ts y rest → y.height ≡ 1 → IsNode 8 ts y rest × (y.height ≤ room + 1)
   leaf-low ts rest y is one = (is, omega arith)
 
-  small_low : (w : Word) (y : Tall) (mid rest : List Token) (b : Bool) → cond b fail (pure (tall (tree.Int w) 1)) mid ≡ Found y rest → y.height ≡ 1
+  small_low : (w : Lexeme) (y : Tall) (mid rest : List Token) (b : Bool) → cond b fail (pure (tall (tree.Int w) 1)) mid ≡ Found y rest → y.height ≡ 1
   small_low w y mid rest true e = cc
   small_low w y mid rest false e = pure-is (λ y r. y.height ≡ 1) (tall (tree.Int w) 1) y mid rest e refl
 
@@ -339,7 +339,7 @@ module _ (room : ℕ) (inner : ℕ → Parser Tall) (known : Reading-sound room 
   unfolding small
   small-low ts rest y e =
       let (w, mid, is, e1) = and_then-some (word k.IntLiteral ts) _ y rest e in
-      small_low w y mid rest (bytes_eq w.name smallest_digits) e1
+      small_low w y mid rest (bytes_eq w.text smallest_digits) e1
 
   sign_leaf : (kind : Kind) (make : Span → Expr) (f : Span → Expr-F Expr) (ts rest : List Token) (y : Tall)
       → ((at : Span) → out-Expr (make at) ≡ f at)
@@ -373,7 +373,7 @@ module _ (room : ℕ) (inner : ℕ → Parser Tall) (known : Reading-sound room 
 
   -- ---- selections
 
-  selected_by-sound : (b : Bool) (x y : Tall) (w : Word) (dot : Span) (start ts t1 t2 rest : List Token) → IsNode 8 start x ts → x.height ≤ room
+  selected_by-sound : (b : Bool) (x y : Tall) (w : Lexeme) (dot : Span) (start ts t1 t2 rest : List Token) → IsNode 8 start x ts → x.height ≤ room
       → Sign k.Dot dot ts t1 → Spelled k.Name w t1 t2 → selected_by inner x w b t2 ≡ Found y rest → IsNode 8 start y rest × (y.height ≤ room + 1)
   selected_by-sound true x y w dot start ts t1 t2 rest from low s1 s2 e =
       let (a, t3, is3, e3) = and_then-some (arguments inner t2) _ y rest e in
@@ -443,19 +443,19 @@ module _ (room : ℕ) (inner : ℕ → Parser Tall) (known : Reading-sound room 
   both true b e = e
   both false b e = cc
 
-  sees_smallest-sound : (ts rest : List Token) (w : Word) → sees_smallest ts ≡ true → Spelled k.IntLiteral w ts rest → w.name ≡ smallest_digits
+  sees_smallest-sound : (ts rest : List Token) (w : Lexeme) → sees_smallest ts ≡ true → Spelled k.IntLiteral w ts rest → w.text ≡ smallest_digits
   unfolding sees_text
   sees_smallest-sound [] rest w sees (t, e, is, stands) = cc
   sees_smallest-sound (t ∷ ts) rest w sees (t', e, is, stands) =
       let same : t ≡ t' = cc in
       let bytes : t.bytes ≡ smallest_digits = (bytes_eq-Decides t.bytes smallest_digits).0 (both (same_kind t.kind k.IntLiteral) (bytes_eq t.bytes smallest_digits) sees) in
-      ap (λ (v : Word). v.name) (sym stands) ∙ ap (λ (u : Token). u.bytes) (sym same) ∙ bytes
+      ap (λ (v : Lexeme). v.text) (sym stands) ∙ ap (λ (u : Token). u.bytes) (sym same) ∙ bytes
 
   positive : (n : ℕ) → (n == 0) ≡ false → 1 ≤ n
   positive zero e = cc
   positive (suc n) e = omega arith
 
-  smallest-int : (w : Word) (ts rest : List Token) → w.name ≡ smallest_digits → Spelled k.IntLiteral w ts rest → Smallest (out-Expr (tree.Int w)) ts rest
+  smallest-int : (w : Lexeme) (ts rest : List Token) → w.text ≡ smallest_digits → Spelled k.IntLiteral w ts rest → Smallest (out-Expr (tree.Int w)) ts rest
   smallest-int w ts rest big s = let P : Expr-F Expr → Type 0 = λ f. Smallest f ts rest in subst P (sym (outs-Int w)) (big, s)
 
   smallest_by : (b : Bool) (at : Span) (y : Tall) (ts t1 rest : List Token) → Sign k.Minus at ts t1 → sees_smallest t1 ≡ true → (room == 0) ≡ b
@@ -464,7 +464,7 @@ module _ (room : ℕ) (inner : ℕ → Parser Tall) (known : Reading-sound room 
   smallest_by false at y ts t1 rest s1 sees is e =
       let (w, t2, is2, e2) = and_then-some (word k.IntLiteral t1) _ y rest e in
       let s2 = word-sound k.IntLiteral t1 t2 w is2 in
-      let big : w.name ≡ smallest_digits = sees_smallest-sound t1 t2 w sees s2 in
+      let big : w.text ≡ smallest_digits = sees_smallest-sound t1 t2 w sees s2 in
       let b : length ts ≡ suc (length t1) = sign-shorter k.Minus ts t1 at s1 in
       let d : length t1 ≡ suc (length t2) = word-shorter k.IntLiteral t1 t2 w s2 in
       let room_is : 1 ≤ room = positive room is in

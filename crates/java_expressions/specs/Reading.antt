@@ -6,7 +6,7 @@ use Rattle.desk_base.specs.declared.span.Span.{Span}
 use Rattle.java_tree.specs.declared.kind.Kind.{Kind}
 use Rattle.java_tree.specs.declared.kind.Kind.TheVariants as k
 use Rattle.java_tree.specs.declared.token.Token.{Token}
-use Rattle.java_tree.specs.declared.token.Word.{Word}
+use Rattle.java_tree.specs.declared.token.Lexeme.{Lexeme}
 use Rattle.java_tree.specs.declared.expr.Expr.{Expr}
 use Rattle.java_tree.specs.declared.expr.Expr.TheVariants as tree
 use Rattle.java_tree.specs.declared.expr.BinaryOp.{BinaryOp}
@@ -76,22 +76,22 @@ with_item found y = record { items = found.items ++ y.expr ∷ []; height = max 
 abbrev pub in_parentheses : Listed → Span → Arguments
 in_parentheses found closing = record { items = found.items; height = found.height; closing = closing }
 
-abbrev pub named_tree : Word → Tall
+abbrev pub named_tree : Lexeme → Tall
 named_tree name = tall (tree.Name name) 1
 
-abbrev pub call_tree : Word → Arguments → Tall
+abbrev pub call_tree : Lexeme → Arguments → Tall
 call_tree name a = tall (tree.Call name a.items a.closing) (a.height + 1)
 
-abbrev pub new_tree : Span → Word → Arguments → Tall
+abbrev pub new_tree : Span → Lexeme → Arguments → Tall
 new_tree at name a = tall (tree.New at name a.items a.closing) (a.height + 1)
 
 abbrev pub paren_tree : Span → Tall → Span → Tall
 paren_tree opening y closing = tall (tree.Paren opening y.expr closing) (y.height + 1)
 
-abbrev pub select_tree : Tall → Word → Tall
+abbrev pub select_tree : Tall → Lexeme → Tall
 select_tree x name = tall (tree.Select x.expr name) (x.height + 1)
 
-abbrev pub call_on_tree : Tall → Word → Arguments → Tall
+abbrev pub call_on_tree : Tall → Lexeme → Arguments → Tall
 call_on_tree x name a = tall (tree.CallOn x.expr name a.items a.closing) (max x.height a.height + 1)
 
 abbrev pub not_tree : Span → Tall → Tall
@@ -100,7 +100,7 @@ not_tree at y = tall (tree.Not at y.expr) (y.height + 1)
 abbrev pub neg_tree : Span → Tall → Tall
 neg_tree at y = tall (tree.Neg at y.expr) (y.height + 1)
 
-abbrev pub smallest_tree : Span → Word → Tall
+abbrev pub smallest_tree : Span → Lexeme → Tall
 smallest_tree at number = tall (tree.Neg at (tree.Int number)) 2
 
 abbrev pub binary_tree : Tall → BinaryOp → Span → Tall → Tall
@@ -111,12 +111,12 @@ binary_tree x which at y = tall (tree.Binary x.expr which at y.expr) (max x.heig
 unfoldable pub small : Parser Tall
 small = do
   number ← word k.IntLiteral
-  if bytes_eq number.name smallest_digits then fail else pure (tall (tree.Int number) 1)
+  if bytes_eq number.text smallest_digits then fail else pure (tall (tree.Int number) 1)
 
-unfoldable pub class_name : Parser Word
+unfoldable pub class_name : Parser Lexeme
 class_name = do
   name ← word k.Name
-  if bytes_eq name.name thread_name then fail else pure name
+  if bytes_eq name.text thread_name then fail else pure name
 
 module _ (inner : ℕ → Parser Tall) where
   unfoldable pub one_more : Listed → Parser Listed
@@ -142,7 +142,7 @@ module _ (inner : ℕ → Parser Tall) where
     closing ← sign k.RParen
     pure (in_parentheses found closing)
 
-  abbrev pub named_by : Word → Bool → Parser Tall
+  abbrev pub named_by : Lexeme → Bool → Parser Tall
   named_by name true = do a ← arguments; pure (call_tree name a)
   named_by name false = pure (named_tree name)
 
@@ -181,7 +181,7 @@ module _ (inner : ℕ → Parser Tall) where
   unfoldable pub primary : Parser Tall
   primary = peek >>= primary_by
 
-  abbrev pub selected_by : Tall → Word → Bool → Parser Tall
+  abbrev pub selected_by : Tall → Lexeme → Bool → Parser Tall
   selected_by x name true = do a ← arguments; pure (call_on_tree x name a)
   selected_by x name false = pure (select_tree x name)
 

@@ -57,7 +57,7 @@ thread_name = codes "Thread"
 
 -- 2147483648, behind a minus
 abbrev pub Smallest : Expr-F Expr → Phrase
-Smallest (Expr-F.Int word) = (word.name ≡ smallest_digits) ⊢ Spelled k.IntLiteral word
+Smallest (Expr-F.Int word) = (word.text ≡ smallest_digits) ⊢ Spelled k.IntLiteral word
 Smallest _ = Never
 
 -- ---- one production
@@ -69,7 +69,7 @@ Args P args closing = Mark k.LParen ⨾ Separated P args ⨾ Sign k.RParen closi
 -- An expression of the level or a tighter one, by its production. Inner says what spells an operand
 -- of a level, where `room` nodes are left for a path.
 abbrev pub Layered : ℕ → (ℕ → Expr → Phrase) → ℕ → Expr-F Expr → Phrase
-Layered room Inner least (Expr-F.Int word) = (word.name ≢ smallest_digits) ⊢ Spelled k.IntLiteral word
+Layered room Inner least (Expr-F.Int word) = (word.text ≢ smallest_digits) ⊢ Spelled k.IntLiteral word
 Layered room Inner least (Expr-F.Str word) = Spelled k.StrLiteral word
 Layered room Inner least (Expr-F.True at) = Sign k.True at
 Layered room Inner least (Expr-F.False at) = Sign k.False at
@@ -77,7 +77,7 @@ Layered room Inner least (Expr-F.Null at) = Sign k.Null at
 Layered room Inner least (Expr-F.This at) = Sign k.This at
 Layered room Inner least (Expr-F.Name word) = Spelled k.Name word
 Layered room Inner least (Expr-F.Call name args closing) = Spelled k.Name name ⨾ Args (Inner 1) args closing
-Layered room Inner least (Expr-F.New at name args closing) = (name.name ≢ thread_name) ⊢ Sign k.New at ⨾ Spelled k.Name name ⨾ Args (Inner 1) args closing
+Layered room Inner least (Expr-F.New at name args closing) = (name.text ≢ thread_name) ⊢ Sign k.New at ⨾ Spelled k.Name name ⨾ Args (Inner 1) args closing
 Layered room Inner least (Expr-F.Paren opening inside closing) = Sign k.LParen opening ⨾ Inner 1 inside ⨾ Sign k.RParen closing
 Layered room Inner least (Expr-F.Select from name) = (least ≤ 8) ⊢ Inner 8 from ⨾ Mark k.Dot ⨾ Spelled k.Name name
 Layered room Inner least (Expr-F.CallOn from name args closing) = (least ≤ 8) ⊢ Inner 8 from ⨾ Mark k.Dot ⨾ Spelled k.Name name ⨾ Args (Inner 1) args closing

@@ -12,7 +12,7 @@ use crate::operators::{goes_on, level_of, next_operator, sign_of};
 use crate::tall::{Arguments, Listed, Tall};
 use desk_base::Span;
 use java_phrases::{SyntaxError, Tokens};
-use java_tree::{BinaryOp, Expr, Kind, Word};
+use java_tree::{BinaryOp, Expr, Kind, Lexeme};
 use sqlite_items::{Boxed, Items};
 use std::alloc::Global;
 
@@ -21,7 +21,7 @@ fn small(alloc: Global, tokens: &mut Tokens) -> Result<Tall, SyntaxError>
     ensures { Steps spec.small tokens.old result tokens.new }
 {
     let number = tokens.word(alloc, Kind::IntLiteral)?;
-    if number.name.as_slice() == b"2147483648".as_slice() {
+    if number.text.as_slice() == b"2147483648".as_slice() {
         return Err(SyntaxError::NotSpelled);
     }
     Ok(Tall {
@@ -32,11 +32,11 @@ fn small(alloc: Global, tokens: &mut Tokens) -> Result<Tall, SyntaxError>
 
 /// The name of a class behind `new`.
 #[tactic(auto, unfolding(crate::specs::Reading::class_name))]
-fn class_name(alloc: Global, tokens: &mut Tokens) -> Result<Word, SyntaxError>
+fn class_name(alloc: Global, tokens: &mut Tokens) -> Result<Lexeme, SyntaxError>
     ensures { Steps spec.class_name tokens.old result tokens.new }
 {
     let name = tokens.word(alloc, Kind::Name)?;
-    if name.name.as_slice() == b"Thread".as_slice() {
+    if name.text.as_slice() == b"Thread".as_slice() {
         return Err(SyntaxError::NotSpelled);
     }
     Ok(name)
@@ -77,7 +77,7 @@ fn paren_tree(
     })
 }
 
-fn select_tree(alloc: Global, from: Tall, name: Word) -> Result<Tall, SyntaxError>
+fn select_tree(alloc: Global, from: Tall, name: Lexeme) -> Result<Tall, SyntaxError>
     requires { from.height ≤ 255 }
     ensures made { IfOk result (λ made. made ≡ spec.select_tree from name) }
     ensures memory { IfErr result (λ e. e ≡ SyntaxError.OutOfMemory) }
@@ -91,7 +91,7 @@ fn select_tree(alloc: Global, from: Tall, name: Word) -> Result<Tall, SyntaxErro
 fn call_on_tree(
     alloc: Global,
     from: Tall,
-    name: Word,
+    name: Lexeme,
     arguments: Arguments,
 ) -> Result<Tall, SyntaxError>
     requires from { from.height ≤ 255 }

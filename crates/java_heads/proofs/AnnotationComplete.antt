@@ -7,7 +7,7 @@ use Rattle.desk_base.specs.declared.span.Span.{Span}
 use Rattle.java_tree.specs.declared.kind.Kind.{Kind}
 use Rattle.java_tree.specs.declared.kind.Kind.TheVariants as k
 use Rattle.java_tree.specs.declared.token.Token.{Token}
-use Rattle.java_tree.specs.declared.token.Word.{Word}
+use Rattle.java_tree.specs.declared.token.Lexeme.{Lexeme}
 use Rattle.java_tree.specs.declared.member.Annot.{Annot, out-Annot}
 use Rattle.java_tree.specs.declared.member.Elements.{Elements, out-Elements, roll-Elements}
 use Rattle.java_tree.specs.declared.member.Elements.TheVariants as elements
@@ -69,7 +69,7 @@ whole-goes : (outer : List Frame) (f : Frame) (a : Annot) → is_whole (nest (ou
 unfolding is_whole
 whole-goes outer f a = some_outside outer f
 
-turn-text : (outer : List Frame) (f : Frame) (text : Word) (o : Opened) (ts mid rest : List Token) → Spelled k.StrLiteral text ts mid → placed f (element.Str text) mid ≡ Found o rest
+turn-text : (outer : List Frame) (f : Frame) (text : Lexeme) (o : Opened) (ts mid rest : List Token) → Spelled k.StrLiteral text ts mid → placed f (element.Str text) mid ≡ Found o rest
     → turn (nest outer (opened.Open f)) ts ≡ Found (nest outer o) rest
 unfolding turn entered
 turn-text outer f text o ts mid rest s is = rw (sees-kind k.StrLiteral k.StrLiteral ts (next-word k.StrLiteral text ts mid s), word-complete k.StrLiteral ts mid text s, is) refl
@@ -84,23 +84,23 @@ turn-leave outer f a o ts rest is = rw (reverse_push outer f, is) (ap (λ l. Fou
 
 -- ---- the parts of an annotation
 
-value_word-complete : (v : Option Word) (ts rest : List Token) → ValueWord v ts rest → sees k.Name rest ≡ false → value_word ts ≡ Found v rest
+value_word-complete : (v : Option Lexeme) (ts rest : List Token) → ValueWord v ts rest → sees k.Name rest ≡ false → value_word ts ≡ Found v rest
 unfolding value_word
 value_word-complete None ts rest s off = let P : List Token → Type 0 = λ l. value_word l ≡ Found None rest in subst P (sym s) (rw off refl)
 value_word-complete (Some w) ts rest (same, (mid, s, s1)) off =
     let (at, is) = mark-complete k.Assign mid rest s1 in
-    let on : bytes_eq w.name value_name ≡ true = (bytes_eq-Decides w.name value_name).1 same in
+    let on : bytes_eq w.text value_name ≡ true = (bytes_eq-Decides w.text value_name).1 same in
     rw (sees-kind k.Name k.Name ts (next-word k.Name w ts mid s), word-complete k.Name ts mid w s, on, is) refl
 
-value-first : (kind : Kind) (v : Option Word) (ts rest : List Token) → ValueWord v ts rest → same_kind k.Name kind ≡ false → sees kind rest ≡ false → sees kind ts ≡ false
+value-first : (kind : Kind) (v : Option Lexeme) (ts rest : List Token) → ValueWord v ts rest → same_kind k.Name kind ≡ false → sees kind rest ≡ false → sees kind ts ≡ false
 value-first kind None ts rest s other off = let P : List Token → Type 0 = λ l. sees kind l ≡ false in subst P (sym s) off
 value-first kind (Some w) ts rest (same, (mid, s, s1)) other off = sees-kind kind k.Name ts (next-word k.Name w ts mid s) ∙ other
 
-head-bare : (at : Span) (name : List Word) (ts t1 rest : List Token) → Sign k.At at ts t1 → Qualified name t1 rest → Suits rest → head ts ≡ Found (opened.Whole (annot at name elements.Bare)) rest
+head-bare : (at : Span) (name : List Lexeme) (ts t1 rest : List Token) → Sign k.At at ts t1 → Qualified name t1 rest → Suits rest → head ts ≡ Found (opened.Whole (annot at name elements.Bare)) rest
 unfolding head
 head-bare at name ts t1 rest s1 s2 suits = rw (sign-complete k.At ts t1 at s1, qualified-complete name t1 rest s2 suits.dot, suits.call) refl
 
-head-filled : (at : Span) (name : List Word) (opening : Span) (o : Opened) (ts t1 t2 t3 rest : List Token) (b : Bool) → Sign k.At at ts t1 → Qualified name t1 t2 → Sign k.LParen opening t2 t3 → sees k.RParen t3 ≡ b → filled_by at name opening b t3 ≡ Found o rest
+head-filled : (at : Span) (name : List Lexeme) (opening : Span) (o : Opened) (ts t1 t2 t3 rest : List Token) (b : Bool) → Sign k.At at ts t1 → Qualified name t1 t2 → Sign k.LParen opening t2 t3 → sees k.RParen t3 ≡ b → filled_by at name opening b t3 ≡ Found o rest
     → head ts ≡ Found o rest
 unfolding head parenthesized
 head-filled at name opening o ts t1 t2 t3 rest b s1 s2 s3 is found =
@@ -131,11 +131,11 @@ unfolding ElemWithin
 begins-elem zero e ts rest s = absurd s
 begins-elem (suc n) e ts rest s = begins-by (ElemWithin n) (out-Elem e) ts rest s
 
-inside-one : (at : Span) (name : List Word) (opening : Span) (value : Option Word) (ts rest : List Token) → ValueWord value ts rest → Begins rest → inside at name opening ts ≡ Found (opened.Open (frame at name opening value false)) rest
+inside-one : (at : Span) (name : List Lexeme) (opening : Span) (value : Option Lexeme) (ts rest : List Token) → ValueWord value ts rest → Begins rest → inside at name opening ts ≡ Found (opened.Open (frame at name opening value false)) rest
 unfolding inside
 inside-one at name opening value ts rest s begins = rw (value_word-complete value ts rest s begins.name, begins.left) refl
 
-inside-many : (at : Span) (name : List Word) (opening : Span) (value : Option Word) (ts mid rest : List Token) → ValueWord value ts mid → Mark k.LBrace mid rest → Begins rest
+inside-many : (at : Span) (name : List Lexeme) (opening : Span) (value : Option Lexeme) (ts mid rest : List Token) → ValueWord value ts mid → Mark k.LBrace mid rest → Begins rest
     → inside at name opening ts ≡ Found (opened.Open (frame at name opening value true)) rest
 unfolding inside
 inside-many at name opening value ts mid rest s s1 begins =
@@ -143,7 +143,7 @@ inside-many at name opening value ts mid rest s s1 begins =
     let (brace, is) = mark-complete k.LBrace mid rest s1 in
     rw (value_word-complete value ts mid s (sees-kind k.Name k.LBrace mid next), sees-kind k.LBrace k.LBrace mid next, is, begins.right) refl
 
-inside-none : (at : Span) (name : List Word) (opening : Span) (value : Option Word) (closing : Span) (ts t1 t2 t3 rest : List Token) → ValueWord value ts t1 → Mark k.LBrace t1 t2 → Mark k.RBrace t2 t3 → Sign k.RParen closing t3 rest
+inside-none : (at : Span) (name : List Lexeme) (opening : Span) (value : Option Lexeme) (closing : Span) (ts t1 t2 t3 rest : List Token) → ValueWord value ts t1 → Mark k.LBrace t1 t2 → Mark k.RBrace t2 t3 → Sign k.RParen closing t3 rest
     → inside at name opening ts ≡ Found (opened.Whole (many_tree (frame at name opening value true) closing)) rest
 unfolding inside closed
 inside-none at name opening value closing ts t1 t2 t3 rest s s1 s2 s3 =
@@ -179,7 +179,7 @@ record Headed (a : Annot) (ts rest : List Token) : Type 0 where
   is : head ts ≡ Found first mid
   comes : (outer : List Frame) → Comes (nest outer first) mid (nest outer (opened.Whole a)) rest
 
-headed-as : (at : Span) (name : List Word) (x y : Elements) (ts rest : List Token) → x ≡ y → Headed (annot at name x) ts rest → Headed (annot at name y) ts rest
+headed-as : (at : Span) (name : List Lexeme) (x y : Elements) (ts rest : List Token) → x ≡ y → Headed (annot at name x) ts rest → Headed (annot at name y) ts rest
 headed-as at name x y ts rest same h = let P : Elements → Type 0 = λ z. Headed (annot at name z) ts rest in subst P same h
 
 headed-whole : (a : Annot) (ts rest : List Token) → head ts ≡ Found (opened.Whole a) rest → Headed a ts rest
@@ -199,7 +199,7 @@ module _ (n : ℕ) (known : ElemComes n) where
       (known x f outer (opened.Open (with_elem f x)) ts t1 c1 p (suits-kind k.Comma t1 (next-mark k.Comma t1 c1 comma) refl refl) (placed-comma f x t1 c1 braces comma))
       (items-come z zs (with_elem f x) outer closing c1 mid t2 t3 rest braces q each s1 s2))
 
-  opens : (at : Span) (name : List Word) (e : Elements-F Elem Elements Annot) (ts t1 t2 rest : List Token) → Sign k.At at ts t1 → Qualified name t1 t2 → ElementsBy (ElemWithin n) e t2 rest → Suits rest → Headed (annot at name (roll-Elements e)) ts rest
+  opens : (at : Span) (name : List Lexeme) (e : Elements-F Elem Elements Annot) (ts t1 t2 rest : List Token) → Sign k.At at ts t1 → Qualified name t1 t2 → ElementsBy (ElemWithin n) e t2 rest → Suits rest → Headed (annot at name (roll-Elements e)) ts rest
   opens at name Elements-F.Bare ts t1 t2 rest s1 s2 none suits =
       let P : List Token → Type 0 = λ l. Qualified name t1 l in
       headed-as at name elements.Bare (roll-Elements Elements-F.Bare) ts rest (sym rolls-Bare) (headed-whole (annot at name elements.Bare) ts rest (head-bare at name ts t1 rest s1 (subst P none s2) suits))

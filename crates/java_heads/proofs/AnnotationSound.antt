@@ -6,7 +6,7 @@ use Rattle.std.proofs.lemmas.List.{reverse-reverse}
 use Rattle.desk_base.specs.declared.span.Span.{Span}
 use Rattle.java_tree.specs.declared.kind.Kind.TheVariants as k
 use Rattle.java_tree.specs.declared.token.Token.{Token}
-use Rattle.java_tree.specs.declared.token.Word.{Word}
+use Rattle.java_tree.specs.declared.token.Lexeme.{Lexeme}
 use Rattle.java_tree.specs.declared.member.Annot.{Annot, out-Annot}
 use Rattle.java_tree.specs.declared.member.Elements.{Elements, out-Elements}
 use Rattle.java_tree.specs.declared.member.Elements.TheVariants as elements
@@ -30,7 +30,7 @@ use Rattle.java_heads.proofs.NameLaws.{qualified-sound, spends-qualified}
 
 -- ---- the tokens that an annotation takes
 
-spends-value : (v : Option Word) → Spends (ValueWord v)
+spends-value : (v : Option Lexeme) → Spends (ValueWord v)
 spends-value None ts rest s = spent-nothing ts rest s
 spends-value (Some w) ts rest (is, s) = spends-then (Spelled k.Name w) (Mark k.Assign) (spends-spelled k.Name w) (spends-mark k.Assign) ts rest s
 
@@ -155,30 +155,30 @@ opened-deeper m n low (opened.Open f) ts rest s = frame-deeper m n low f ts rest
 
 -- ---- its parts
 
-value_if : (w : Word) (v : Option Word) (ts mid rest : List Token) (b : Bool) → Spelled k.Name w ts mid → bytes_eq w.name value_name ≡ b
+value_if : (w : Lexeme) (v : Option Lexeme) (ts mid rest : List Token) (b : Bool) → Spelled k.Name w ts mid → bytes_eq w.text value_name ≡ b
     → cond b (λ ts. and_then (sign k.Assign ts) (λ _. pure (Some w))) fail mid ≡ Found v rest → ValueWord v ts rest
 value_if w v ts mid rest true s is e =
     let (at, t2, is2, e2) = and_then-some (sign k.Assign mid) _ v rest e in
-    pure-is (λ v r. ValueWord v ts r) (Some w) v t2 rest e2 ((bytes_eq-Decides w.name value_name).0 is, (mid, s, mark-sound k.Assign mid t2 at is2))
+    pure-is (λ v r. ValueWord v ts r) (Some w) v t2 rest e2 ((bytes_eq-Decides w.text value_name).0 is, (mid, s, mark-sound k.Assign mid t2 at is2))
 value_if w v ts mid rest false s is e = cc
 
-value_by-sound : (b : Bool) (ts rest : List Token) (v : Option Word) → value_by b ts ≡ Found v rest → ValueWord v ts rest
+value_by-sound : (b : Bool) (ts rest : List Token) (v : Option Lexeme) → value_by b ts ≡ Found v rest → ValueWord v ts rest
 value_by-sound true ts rest v e =
     let (w, mid, is, e1) = and_then-some (word k.Name ts) _ v rest e in
-    value_if w v ts mid rest (bytes_eq w.name value_name) (word-sound k.Name ts mid w is) refl e1
+    value_if w v ts mid rest (bytes_eq w.text value_name) (word-sound k.Name ts mid w is) refl e1
 value_by-sound false ts rest v e = pure-is (λ v r. ValueWord v ts r) None v ts rest e refl
 
-value_word-sound : (ts rest : List Token) (v : Option Word) → value_word ts ≡ Found v rest → ValueWord v ts rest
+value_word-sound : (ts rest : List Token) (v : Option Lexeme) → value_word ts ≡ Found v rest → ValueWord v ts rest
 unfolding value_word
 value_word-sound ts rest v e = value_by-sound (sees k.Name ts) ts rest v e
 
-empty-tree : (n : ℕ) (at : Span) (name : List Word) (opening closing : Span) (ts t1 t2 t3 rest : List Token) → Sign k.At at ts t1 → Qualified name t1 t2 → Sign k.LParen opening t2 t3 → Sign k.RParen closing t3 rest
+empty-tree : (n : ℕ) (at : Span) (name : List Lexeme) (opening closing : Span) (ts t1 t2 t3 rest : List Token) → Sign k.At at ts t1 → Qualified name t1 t2 → Sign k.LParen opening t2 t3 → Sign k.RParen closing t3 rest
     → OpenedIs n (opened.Whole (annot at name (elements.Empty opening closing))) ts rest
 empty-tree n at name opening closing ts t1 t2 t3 rest s1 s2 s3 s4 =
     let P : Elements-F Elem Elements Annot → Type 0 = λ f. ElementsBy (ElemWithin n) f t2 rest in
     (t1, s1, (t2, s2, subst P (sym (outs-Empty opening closing)) (t3, s3, s4)))
 
-bare-tree : (n : ℕ) (at : Span) (name : List Word) (ts t1 rest : List Token) → Sign k.At at ts t1 → Qualified name t1 rest → OpenedIs n (opened.Whole (annot at name elements.Bare)) ts rest
+bare-tree : (n : ℕ) (at : Span) (name : List Lexeme) (ts t1 rest : List Token) → Sign k.At at ts t1 → Qualified name t1 rest → OpenedIs n (opened.Whole (annot at name elements.Bare)) ts rest
 bare-tree n at name ts t1 rest s1 s2 =
     let P : Elements-F Elem Elements Annot → Type 0 = λ f. ElementsBy (ElemWithin n) f rest rest in
     (t1, s1, (rest, s2, subst P (sym outs-Bare) refl))
@@ -202,13 +202,13 @@ closed-sound n f start t1 t2 ts rest o s1 s2 s3 e =
     pure-is (λ o r. OpenedIs n o start r) (opened.Whole (many_tree f closing)) o t4 rest e4
     (many-is n f closing start t1 t2 ts t3 t4 s1 s2 s3 (mark-sound k.RBrace ts t3 at is3) (sign-sound k.RParen t3 t4 closing is4))
 
-listed_by-sound : (b : Bool) (n : ℕ) (at : Span) (name : List Word) (opening : Span) (value : Option Word) (start t1 ts rest : List Token) (o : Opened) → HeadOf (frame at name opening value true) start t1 → Mark k.LBrace t1 ts
+listed_by-sound : (b : Bool) (n : ℕ) (at : Span) (name : List Lexeme) (opening : Span) (value : Option Lexeme) (start t1 ts rest : List Token) (o : Opened) → HeadOf (frame at name opening value true) start t1 → Mark k.LBrace t1 ts
     → listed_by (frame at name opening value true) b ts ≡ Found o rest → OpenedIs n o start rest
 listed_by-sound true n at name opening value start t1 ts rest o s1 s2 e = closed-sound n (frame at name opening value true) start t1 ts ts rest o s1 s2 refl e
 listed_by-sound false n at name opening value start t1 ts rest o s1 s2 e =
     pure-is (λ o r. OpenedIs n o start r) (opened.Open (frame at name opening value true)) o ts rest e (t1, s1, (ts, s2, refl))
 
-inside_by-sound : (b : Bool) (n : ℕ) (at : Span) (name : List Word) (opening : Span) (value : Option Word) (start ts rest : List Token) (o : Opened) → HeadOf (frame at name opening value b) start ts
+inside_by-sound : (b : Bool) (n : ℕ) (at : Span) (name : List Lexeme) (opening : Span) (value : Option Lexeme) (start ts rest : List Token) (o : Opened) → HeadOf (frame at name opening value b) start ts
     → inside_by at name opening value b ts ≡ Found o rest → OpenedIs n o start rest
 inside_by-sound true n at name opening value start ts rest o s e =
     let (brace, t1, is1, e1) = and_then-some (sign k.LBrace ts) _ o rest e in
@@ -216,14 +216,14 @@ inside_by-sound true n at name opening value start ts rest o s e =
 inside_by-sound false n at name opening value start ts rest o s e =
     pure-is (λ o r. OpenedIs n o start r) (opened.Open (frame at name opening value false)) o ts rest e (ts, s, refl)
 
-inside-sound : (n : ℕ) (at : Span) (name : List Word) (opening : Span) (start t1 t2 ts rest : List Token) (o : Opened) → Sign k.At at start t1 → Qualified name t1 t2 → Sign k.LParen opening t2 ts
+inside-sound : (n : ℕ) (at : Span) (name : List Lexeme) (opening : Span) (start t1 t2 ts rest : List Token) (o : Opened) → Sign k.At at start t1 → Qualified name t1 t2 → Sign k.LParen opening t2 ts
     → inside at name opening ts ≡ Found o rest → OpenedIs n o start rest
 unfolding inside
 inside-sound n at name opening start t1 t2 ts rest o s1 s2 s3 e =
     let (value, t3, is3, e3) = and_then-some (value_word ts) _ o rest e in
     inside_by-sound (sees k.LBrace t3) n at name opening value start t3 rest o (t1, s1, (t2, s2, (ts, s3, value_word-sound ts t3 value is3))) e3
 
-filled_by-sound : (b : Bool) (n : ℕ) (at : Span) (name : List Word) (opening : Span) (start t1 t2 ts rest : List Token) (o : Opened) → Sign k.At at start t1 → Qualified name t1 t2 → Sign k.LParen opening t2 ts
+filled_by-sound : (b : Bool) (n : ℕ) (at : Span) (name : List Lexeme) (opening : Span) (start t1 t2 ts rest : List Token) (o : Opened) → Sign k.At at start t1 → Qualified name t1 t2 → Sign k.LParen opening t2 ts
     → filled_by at name opening b ts ≡ Found o rest → OpenedIs n o start rest
 filled_by-sound true n at name opening start t1 t2 ts rest o s1 s2 s3 e =
     let (closing, t3, is3, e3) = and_then-some (sign k.RParen ts) _ o rest e in
@@ -231,7 +231,7 @@ filled_by-sound true n at name opening start t1 t2 ts rest o s1 s2 s3 e =
     (empty-tree n at name opening closing start t1 t2 ts t3 s1 s2 s3 (sign-sound k.RParen ts t3 closing is3))
 filled_by-sound false n at name opening start t1 t2 ts rest o s1 s2 s3 e = inside-sound n at name opening start t1 t2 ts rest o s1 s2 s3 e
 
-head_by-sound : (b : Bool) (n : ℕ) (at : Span) (name : List Word) (start t1 ts rest : List Token) (o : Opened) → Sign k.At at start t1 → Qualified name t1 ts → head_by at name b ts ≡ Found o rest → OpenedIs n o start rest
+head_by-sound : (b : Bool) (n : ℕ) (at : Span) (name : List Lexeme) (start t1 ts rest : List Token) (o : Opened) → Sign k.At at start t1 → Qualified name t1 ts → head_by at name b ts ≡ Found o rest → OpenedIs n o start rest
 unfolding parenthesized
 head_by-sound true n at name start t1 ts rest o s1 s2 e =
     let (opening, t3, is3, e3) = and_then-some (sign k.LParen ts) _ o rest e in
@@ -365,7 +365,7 @@ elem-annot : (n : ℕ) (a : Annot) (ts rest : List Token) → AnnotBy (ElemWithi
 unfolding ElemWithin
 elem-annot n a ts rest s = let P : Elem-F Elem Elements Annot → Type 0 = λ f. ElemBy (ElemWithin n) f ts rest in subst P (sym (outs-Annot a)) s
 
-elem-text : (n : ℕ) (text : Word) (ts rest : List Token) → Spelled k.StrLiteral text ts rest → ElemWithin (suc n) (element.Str text) ts rest
+elem-text : (n : ℕ) (text : Lexeme) (ts rest : List Token) → Spelled k.StrLiteral text ts rest → ElemWithin (suc n) (element.Str text) ts rest
 unfolding ElemWithin
 elem-text n text ts rest s = let P : Elem-F Elem Elements Annot → Type 0 = λ f. ElemBy (ElemWithin n) f ts rest in subst P (sym (outs-Str text)) s
 

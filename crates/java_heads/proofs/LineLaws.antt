@@ -5,7 +5,7 @@ use Rattle.desk_base.specs.declared.span.Span.{Span}
 use Rattle.java_tree.specs.declared.kind.Kind.{Kind}
 use Rattle.java_tree.specs.declared.kind.Kind.TheVariants as k
 use Rattle.java_tree.specs.declared.token.Token.{Token}
-use Rattle.java_tree.specs.declared.token.Word.{Word}
+use Rattle.java_tree.specs.declared.token.Lexeme.{Lexeme}
 use Rattle.java_tree.specs.declared.member.Mod.{Mod}
 use Rattle.java_tree.specs.declared.file.Package.{Package}
 use Rattle.java_tree.specs.declared.file.Import.{Import}
@@ -151,25 +151,25 @@ unfolding is_free
 free-complete name free =
     rw (other_bytes name object_name free.no_object, other_bytes name string_name free.no_string, other_bytes name runnable_name free.no_runnable, other_bytes name thread_name free.no_thread) refl
 
-type_name_by : (w v : Word) (ts mid rest : List Token) (b : Bool) → Spelled k.Name w ts mid → is_free w.name ≡ b → cond b (pure w) fail mid ≡ Found v rest → IsFreeName v.name × Spelled k.Name v ts rest
-type_name_by w v ts mid rest true s is e = pure-is (λ v r. IsFreeName v.name × Spelled k.Name v ts r) w v mid rest e (free-sound w.name is, s)
+type_name_by : (w v : Lexeme) (ts mid rest : List Token) (b : Bool) → Spelled k.Name w ts mid → is_free w.text ≡ b → cond b (pure w) fail mid ≡ Found v rest → IsFreeName v.text × Spelled k.Name v ts rest
+type_name_by w v ts mid rest true s is e = pure-is (λ v r. IsFreeName v.text × Spelled k.Name v ts r) w v mid rest e (free-sound w.text is, s)
 type_name_by w v ts mid rest false s is e = cc
 
-type_name-sound : (ts rest : List Token) (v : Word) → type_name ts ≡ Found v rest → IsFreeName v.name × Spelled k.Name v ts rest
+type_name-sound : (ts rest : List Token) (v : Lexeme) → type_name ts ≡ Found v rest → IsFreeName v.text × Spelled k.Name v ts rest
 unfolding type_name
 type_name-sound ts rest v e =
     let (w, mid, is, e1) = and_then-some (word k.Name ts) _ v rest e in
-    type_name_by w v ts mid rest (is_free w.name) (word-sound k.Name ts mid w is) refl e1
+    type_name_by w v ts mid rest (is_free w.text) (word-sound k.Name ts mid w is) refl e1
 
-type_name-complete : (v : Word) (ts rest : List Token) → IsFreeName v.name → Spelled k.Name v ts rest → type_name ts ≡ Found v rest
+type_name-complete : (v : Lexeme) (ts rest : List Token) → IsFreeName v.text → Spelled k.Name v ts rest → type_name ts ≡ Found v rest
 unfolding type_name
-type_name-complete v ts rest free s = rw (word-complete k.Name ts rest v s, free-complete v.name free) refl
+type_name-complete v ts rest free s = rw (word-complete k.Name ts rest v s, free-complete v.text free) refl
 
-as-implements : (y : List Word) (ts mid rest : List Token) → Mark k.Implements ts mid → Joined k.Comma (Spelled k.Name) y mid rest → Implements sort.Class y ts rest
+as-implements : (y : List Lexeme) (ts mid rest : List Token) → Mark k.Implements ts mid → Joined k.Comma (Spelled k.Name) y mid rest → Implements sort.Class y ts rest
 as-implements [] ts mid rest s1 s = absurd s
 as-implements (name ∷ names) ts mid rest s1 s = (mid, s1, s)
 
-interfaces_by-sound : (b : Bool) (ts rest : List Token) (y : List Word) → interfaces_by b ts ≡ Found y rest → Implements sort.Class y ts rest
+interfaces_by-sound : (b : Bool) (ts rest : List Token) (y : List Lexeme) → interfaces_by b ts ≡ Found y rest → Implements sort.Class y ts rest
 unfolding some_interfaces
 interfaces_by-sound true ts rest y e =
     let (at, t1, is1, e1) = and_then-some (sign k.Implements ts) _ y rest e in
@@ -177,7 +177,7 @@ interfaces_by-sound true ts rest y e =
     as-implements y ts t1 rest (mark-sound k.Implements ts t1 at is1) (joined-sound (Spelled k.Name) (word k.Name) (word-sound k.Name) (sees k.Comma) k.Comma name t1 t2 rest y (word-sound k.Name t1 t2 name is2) e2).0
 interfaces_by-sound false ts rest y e = pure-is (λ y r. Implements sort.Class y ts r) [] y ts rest e refl
 
-interfaces-sound : (kind : TypeKind) (ts rest : List Token) (y : List Word) → interfaces kind ts ≡ Found y rest → Implements kind y ts rest
+interfaces-sound : (kind : TypeKind) (ts rest : List Token) (y : List Lexeme) → interfaces kind ts ≡ Found y rest → Implements kind y ts rest
 unfolding class_interfaces
 interfaces-sound sort.Class ts rest y e = interfaces_by-sound (sees k.Implements ts) ts rest y e
 interfaces-sound sort.Interface ts rest y e = pure-is (λ y r. Implements sort.Interface y ts r) [] y ts rest e refl
@@ -187,7 +187,7 @@ record Closes (ts : List Token) : Type 0 where
   none : sees k.Implements ts ≡ false
   comma : sees k.Comma ts ≡ false
 
-class-complete : (y : List Word) (ts rest : List Token) → Implements sort.Class y ts rest → Closes rest → class_interfaces ts ≡ Found y rest
+class-complete : (y : List Lexeme) (ts rest : List Token) → Implements sort.Class y ts rest → Closes rest → class_interfaces ts ≡ Found y rest
 unfolding class_interfaces some_interfaces
 class-complete [] ts rest s closes = let P : List Token → Type 0 = λ l. class_interfaces l ≡ Found [] rest in subst P (sym s) (rw closes.none refl)
 class-complete (name ∷ names) ts rest (t1, s1, (mid, s, each)) closes =
@@ -196,7 +196,7 @@ class-complete (name ∷ names) ts rest (t1, s1, (mid, s, each)) closes =
     (joined-complete (Spelled k.Name) (word k.Name) (λ _. Unit {0}) (λ w ts rest s _. word-complete k.Name ts rest w s) (sees k.Comma) k.Comma (spends-spelled k.Name)
     (λ w ts mid rest s p. sees-kind k.Comma k.Comma ts (next-mark k.Comma ts mid s)) (λ ts rest s. tt) name names mid rest each tt closes.comma)
 
-interfaces-complete : (kind : TypeKind) (y : List Word) (ts rest : List Token) → Implements kind y ts rest → Closes rest → interfaces kind ts ≡ Found y rest
+interfaces-complete : (kind : TypeKind) (y : List Lexeme) (ts rest : List Token) → Implements kind y ts rest → Closes rest → interfaces kind ts ≡ Found y rest
 interfaces-complete sort.Class y ts rest s closes = class-complete y ts rest s closes
 interfaces-complete sort.Interface [] ts rest s closes = ap (λ l. Found [] l) s
 interfaces-complete sort.Interface (name ∷ names) ts rest s closes = absurd s

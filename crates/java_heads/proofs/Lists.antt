@@ -4,7 +4,7 @@ use Rattle.std.proofs.lemmas.List.{append-nil}
 use Rattle.desk_base.specs.declared.span.Span.{Span}
 use Rattle.java_tree.specs.declared.kind.Kind.{Kind}
 use Rattle.java_tree.specs.declared.token.Token.{Token}
-use Rattle.java_tree.specs.declared.token.Word.{Word}
+use Rattle.java_tree.specs.declared.token.Lexeme.{Lexeme}
 use Rattle.java_phrases.specs.Phrase.{Phrase, ◌⨾◌, Mark, Sign, Spelled, Each}
 use Rattle.java_phrases.specs.Parser.{Found, Parser, and_then, next_kind, same_kind, sees, sign, turns_from, turns}
 use Rattle.java_phrases.proofs.Phrases.{and_then-some, pure-is, sign-sound, sign-complete, mark-sign, sign-mark, sees-next, Spent, spent-nothing, spent-one, spent-then, not_longer}
@@ -23,7 +23,7 @@ spends-mark kind ts rest (t, e, is) = spent-one t ts rest e
 pub spends-sign : (kind : Kind) (at : Span) → Spends (Sign kind at)
 spends-sign kind at ts rest (t, e, is, stands) = spent-one t ts rest e
 
-pub spends-spelled : (kind : Kind) (w : Word) → Spends (Spelled kind w)
+pub spends-spelled : (kind : Kind) (w : Lexeme) → Spends (Spelled kind w)
 spends-spelled kind w ts rest (t, e, is, stands) = spent-one t ts rest e
 
 pub spends-then : (P Q : Phrase) → Spends P → Spends Q → Spends (P ⨾ Q)
@@ -44,7 +44,7 @@ mark-shorter kind ts rest (t, e, is) = ap length e
 pub sign-shorter : (kind : Kind) (ts rest : List Token) (at : Span) → Sign kind at ts rest → length ts ≡ suc (length rest)
 sign-shorter kind ts rest at (t, e, is, stands) = ap length e
 
-pub word-shorter : (kind : Kind) (ts rest : List Token) (w : Word) → Spelled kind w ts rest → length ts ≡ suc (length rest)
+pub word-shorter : (kind : Kind) (ts rest : List Token) (w : Lexeme) → Spelled kind w ts rest → length ts ≡ suc (length rest)
 word-shorter kind ts rest w (t, e, is, stands) = ap length e
 
 pub mark-sound : (kind : Kind) (ts rest : List Token) (at : Span) → sign kind ts ≡ Found at rest → Mark kind ts rest

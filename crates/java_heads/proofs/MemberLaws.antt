@@ -6,7 +6,7 @@ use Rattle.desk_base.specs.declared.span.Span.{Span}
 use Rattle.java_tree.specs.declared.kind.Kind.{Kind}
 use Rattle.java_tree.specs.declared.kind.Kind.TheVariants as k
 use Rattle.java_tree.specs.declared.token.Token.{Token}
-use Rattle.java_tree.specs.declared.token.Word.{Word}
+use Rattle.java_tree.specs.declared.token.Lexeme.{Lexeme}
 use Rattle.java_tree.specs.declared.member.Mod.{Mod}
 use Rattle.java_tree.specs.declared.member.Ty.{Ty}
 use Rattle.java_tree.specs.declared.member.Init.{Init}
@@ -40,37 +40,37 @@ other_bytes xs ys other = other_by (bytes_eq xs ys) xs ys refl other
 pub same_bytes : (xs ys : List ℕ) → xs ≡ ys → bytes_eq xs ys ≡ true
 same_bytes xs ys same = (bytes_eq-Decides xs ys).1 same
 
-named_by : (w v : Word) (text : List ℕ) (ts mid rest : List Token) (b : Bool) → Spelled k.Name w ts mid → bytes_eq w.name text ≡ b → cond b (pure w) fail mid ≡ Found v rest → Spelled k.Name v ts rest × (v.name ≡ text)
-named_by w v text ts mid rest true s is e = pure-is (λ v r. Spelled k.Name v ts r × (v.name ≡ text)) w v mid rest e (s, (bytes_eq-Decides w.name text).0 is)
+named_by : (w v : Lexeme) (text : List ℕ) (ts mid rest : List Token) (b : Bool) → Spelled k.Name w ts mid → bytes_eq w.text text ≡ b → cond b (pure w) fail mid ≡ Found v rest → Spelled k.Name v ts rest × (v.text ≡ text)
+named_by w v text ts mid rest true s is e = pure-is (λ v r. Spelled k.Name v ts r × (v.text ≡ text)) w v mid rest e (s, (bytes_eq-Decides w.text text).0 is)
 named_by w v text ts mid rest false s is e = cc
 
-pub named-sound : (text : List ℕ) (ts rest : List Token) (v : Word) → named text ts ≡ Found v rest → Spelled k.Name v ts rest × (v.name ≡ text)
+pub named-sound : (text : List ℕ) (ts rest : List Token) (v : Lexeme) → named text ts ≡ Found v rest → Spelled k.Name v ts rest × (v.text ≡ text)
 unfolding named
 named-sound text ts rest v e =
     let (w, mid, is, e1) = and_then-some (word k.Name ts) _ v rest e in
-    named_by w v text ts mid rest (bytes_eq w.name text) (word-sound k.Name ts mid w is) refl e1
+    named_by w v text ts mid rest (bytes_eq w.text text) (word-sound k.Name ts mid w is) refl e1
 
-pub named-complete : (text : List ℕ) (v : Word) (ts rest : List Token) → Spelled k.Name v ts rest → v.name ≡ text → named text ts ≡ Found v rest
+pub named-complete : (text : List ℕ) (v : Lexeme) (ts rest : List Token) → Spelled k.Name v ts rest → v.text ≡ text → named text ts ≡ Found v rest
 unfolding named
-named-complete text v ts rest s is = rw (word-complete k.Name ts rest v s, same_bytes v.name text is) refl
+named-complete text v ts rest s is = rw (word-complete k.Name ts rest v s, same_bytes v.text text is) refl
 
-pub name_is : (text : List ℕ) (v : Word) (ts rest : List Token) → Spelled k.Name v ts rest → v.name ≡ text → NameIs text ts rest
-name_is text v ts rest (t, e, is, stands) same = (t, e, is, ap (λ (u : Word). u.name) stands ∙ same)
+pub name_is : (text : List ℕ) (v : Lexeme) (ts rest : List Token) → Spelled k.Name v ts rest → v.text ≡ text → NameIs text ts rest
+name_is text v ts rest (t, e, is, stands) same = (t, e, is, ap (λ (u : Lexeme). u.name) stands ∙ same)
 
-pub is_name : (text : List ℕ) (ts rest : List Token) → NameIs text ts rest → (v : Word) × (named text ts ≡ Found v rest)
+pub is_name : (text : List ℕ) (ts rest : List Token) → NameIs text ts rest → (v : Lexeme) × (named text ts ≡ Found v rest)
 is_name text ts rest (t, e, is, same) = (word_of t, named-complete text (word_of t) ts rest (t, e, is, refl) same)
 
 -- ---- initializers
 
-small_by : (w : Word) (y : Init) (ts mid rest : List Token) (b : Bool) → Spelled k.IntLiteral w ts mid → bytes_eq w.name smallest_digits ≡ b → cond b fail (pure (init.Int w)) mid ≡ Found y rest → InitSpells y ts rest
+small_by : (w : Lexeme) (y : Init) (ts mid rest : List Token) (b : Bool) → Spelled k.IntLiteral w ts mid → bytes_eq w.text smallest_digits ≡ b → cond b fail (pure (init.Int w)) mid ≡ Found y rest → InitSpells y ts rest
 small_by w y ts mid rest true s is e = cc
-small_by w y ts mid rest false s is e = pure-is (λ y r. InitSpells y ts r) (init.Int w) y mid rest e (not_bytes w.name smallest_digits is, s)
+small_by w y ts mid rest false s is e = pure-is (λ y r. InitSpells y ts r) (init.Int w) y mid rest e (not_bytes w.text smallest_digits is, s)
 
 small-sound : (ts rest : List Token) (y : Init) → small ts ≡ Found y rest → InitSpells y ts rest
 unfolding small
 small-sound ts rest y e =
     let (w, mid, is, e1) = and_then-some (word k.IntLiteral ts) _ y rest e in
-    small_by w y ts mid rest (bytes_eq w.name smallest_digits) (word-sound k.IntLiteral ts mid w is) refl e1
+    small_by w y ts mid rest (bytes_eq w.text smallest_digits) (word-sound k.IntLiteral ts mid w is) refl e1
 
 negative-sound : (ts rest : List Token) (y : Init) → negative ts ≡ Found y rest → InitSpells y ts rest
 unfolding negative
@@ -113,7 +113,7 @@ initializer-sound ts rest y e = initializer_by-sound (next_kind ts) ts rest y e
 
 initializer-complete : (y : Init) (ts rest : List Token) → InitSpells y ts rest → initializer ts ≡ Found y rest
 unfolding initializer small negative new_object
-initializer-complete (init.Int w) ts rest (other, s) = rw (next-word k.IntLiteral w ts rest s, word-complete k.IntLiteral ts rest w s, other_bytes w.name smallest_digits other) refl
+initializer-complete (init.Int w) ts rest (other, s) = rw (next-word k.IntLiteral w ts rest s, word-complete k.IntLiteral ts rest w s, other_bytes w.text smallest_digits other) refl
 initializer-complete (init.MinusInt at w) ts rest (t1, s1, s2) = rw (next-sign k.Minus at ts t1 s1, sign-complete k.Minus ts t1 at s1, word-complete k.IntLiteral t1 rest w s2) refl
 initializer-complete (init.True at) ts rest s = rw (next-sign k.True at ts rest s, sign-complete k.True ts rest at s) refl
 initializer-complete (init.False at) ts rest s = rw (next-sign k.False at ts rest s, sign-complete k.False ts rest at s) refl
@@ -146,10 +146,10 @@ init-complete (Some y) ts rest (t1, s1, s2) off =
 -- ---- fields
 
 -- the tree without its tokens
-abbrev pub field_of : List Mod → Ty → Word → Option Init → Field
+abbrev pub field_of : List Mod → Ty → Lexeme → Option Init → Field
 field_of mods y name value = record { mods = mods; ty = y; name = name; init = value; tokens = [] }
 
-pub field_end-sound : (mods : List Mod) (y : Ty) (name : Word) (ts rest : List Token) (f : Field) → field_end mods y name ts ≡ Found f rest
+pub field_end-sound : (mods : List Mod) (y : Ty) (name : Lexeme) (ts rest : List Token) (f : Field) → field_end mods y name ts ≡ Found f rest
     → (value : Option Init) × (f ≡ field_of mods y name value) × (InitPart value ⨾ Mark k.Semicolon) ts rest
 unfolding field_end
 field_end-sound mods y name ts rest f e =
@@ -158,7 +158,7 @@ field_end-sound mods y name ts rest f e =
     pure-is (λ f r. (value : Option Init) × (f ≡ field_of mods y name value) × (InitPart value ⨾ Mark k.Semicolon) ts r) (field_of mods y name value) f t2 rest e2
     (value, refl, (t1, init-sound ts t1 value is1, mark-sound k.Semicolon t1 t2 at is2))
 
-pub field_end-complete : (mods : List Mod) (y : Ty) (name : Word) (value : Option Init) (ts rest : List Token) → (InitPart value ⨾ Mark k.Semicolon) ts rest → field_end mods y name ts ≡ Found (field_of mods y name value) rest
+pub field_end-complete : (mods : List Mod) (y : Ty) (name : Lexeme) (value : Option Init) (ts rest : List Token) → (InitPart value ⨾ Mark k.Semicolon) ts rest → field_end mods y name ts ≡ Found (field_of mods y name value) rest
 unfolding field_end
 field_end-complete mods y name value ts rest (t1, s1, s2) =
     let (at, is) = mark-complete k.Semicolon t1 rest s2 in

@@ -3,7 +3,7 @@ use Rattle.std.proofs.Common.{◌≡◌, ◌<◌, true, false, List, [], ◌∷�
 use Rattle.java_tree.specs.declared.kind.Kind.{Kind}
 use Rattle.java_tree.specs.declared.kind.Kind.TheVariants as k
 use Rattle.java_tree.specs.declared.token.Token.{Token}
-use Rattle.java_tree.specs.declared.token.Word.{Word}
+use Rattle.java_tree.specs.declared.token.Lexeme.{Lexeme}
 use Rattle.java_phrases.specs.Phrase.{Mark, Spelled}
 use Rattle.java_phrases.specs.Parser.{Found, next_kind, kind_at, same_kind, sees, word}
 use Rattle.java_phrases.proofs.Phrases.{and_then-some, word-sound, word-complete, next-word}
@@ -11,24 +11,24 @@ use Rattle.java_heads.specs.Annotation.{Qualified}
 use Rattle.java_heads.specs.Reading.{after, goes_on, qualified}
 use Rattle.java_heads.proofs.Lists.{Spends, spends-spelled, spends-joined, sees-kind, joined-sound, after-shorter, joined-complete}
 
-pub name_after-shorter : (before : Kind) (found y : List Word) (ts rest : List Token) → after before (word k.Name) found ts ≡ Found y rest → length rest < length ts
+pub name_after-shorter : (before : Kind) (found y : List Lexeme) (ts rest : List Token) → after before (word k.Name) found ts ≡ Found y rest → length rest < length ts
 name_after-shorter = after-shorter (Spelled k.Name) (word k.Name) (word-sound k.Name) (spends-spelled k.Name)
 
-pub qualified-sound : (ts rest : List Token) (y : List Word) → qualified ts ≡ Found y rest → Qualified y ts rest
+pub qualified-sound : (ts rest : List Token) (y : List Lexeme) → qualified ts ≡ Found y rest → Qualified y ts rest
 unfolding qualified
 qualified-sound ts rest y e =
     let (w, mid, is, e1) = and_then-some (word k.Name ts) _ y rest e in
     (joined-sound (Spelled k.Name) (word k.Name) (word-sound k.Name) goes_on k.Dot w ts mid rest y (word-sound k.Name ts mid w is) e1).0
 
-pub spends-qualified : (y : List Word) → Spends (Qualified y)
+pub spends-qualified : (y : List Lexeme) → Spends (Qualified y)
 spends-qualified = spends-joined k.Dot (Spelled k.Name) (spends-spelled k.Name)
 
 -- a dot and a name behind it
-goes_on-is : (w : Word) (ts mid rest : List Token) → Mark k.Dot ts mid → Spelled k.Name w mid rest → goes_on ts ≡ true
+goes_on-is : (w : Lexeme) (ts mid rest : List Token) → Mark k.Dot ts mid → Spelled k.Name w mid rest → goes_on ts ≡ true
 unfolding goes_on sees kind_at
 goes_on-is w ts mid rest (t, e, is) (u, f, was, stands) = rw (e, f, is, was) refl
 
-pub qualified-complete : (y : List Word) (ts rest : List Token) → Qualified y ts rest → goes_on rest ≡ false → qualified ts ≡ Found y rest
+pub qualified-complete : (y : List Lexeme) (ts rest : List Token) → Qualified y ts rest → goes_on rest ≡ false → qualified ts ≡ Found y rest
 unfolding qualified
 qualified-complete [] ts rest s stops = absurd s
 qualified-complete (w ∷ names) ts rest (mid, s, each) stops =
@@ -36,7 +36,7 @@ qualified-complete (w ∷ names) ts rest (mid, s, each) stops =
     (λ w ts mid rest s p. goes_on-is w ts mid rest s p) (λ ts rest s. tt) w names mid rest each tt stops)
 
 -- what stands first in it
-pub qualified-first : (y : List Word) (ts rest : List Token) → Qualified y ts rest → next_kind ts ≡ Some k.Name
+pub qualified-first : (y : List Lexeme) (ts rest : List Token) → Qualified y ts rest → next_kind ts ≡ Some k.Name
 qualified-first [] ts rest s = absurd s
 qualified-first (w ∷ names) ts rest (mid, s, each) = next-word k.Name w ts mid s
 

@@ -4,7 +4,7 @@ use Rattle.std.proofs.lemmas.Bool.{leb-true, le-leb}
 use Rattle.java_tree.specs.declared.kind.Kind.{Kind}
 use Rattle.java_tree.specs.declared.kind.Kind.TheVariants as k
 use Rattle.java_tree.specs.declared.token.Token.{Token}
-use Rattle.java_tree.specs.declared.token.Word.{Word}
+use Rattle.java_tree.specs.declared.token.Lexeme.{Lexeme}
 use Rattle.java_tree.specs.declared.member.Ty.{Ty}
 use Rattle.java_tree.specs.declared.member.Ty.TheVariants as tree
 use Rattle.java_tree.specs.declared.member.Param.{Param}
@@ -123,14 +123,14 @@ pub record AfterThrows (ts : List Token) : Type 0 where
 pub after-throws : (kind : Kind) (ts : List Token) → next_kind ts ≡ Some kind → same_kind kind k.Throws ≡ false → same_kind kind k.Comma ≡ false → same_kind kind k.Dot ≡ false → AfterThrows ts
 after-throws kind ts e a b d = record { none = sees-kind k.Throws kind ts e ∙ a; comma = sees-kind k.Comma kind ts e ∙ b; dot = goes_off kind ts e d }
 
-pub qualified_after-shorter : (before : Kind) (found y : List (List Word)) (ts rest : List Token) → after before qualified found ts ≡ Found y rest → length rest < length ts
+pub qualified_after-shorter : (before : Kind) (found y : List (List Lexeme)) (ts rest : List Token) → after before qualified found ts ≡ Found y rest → length rest < length ts
 qualified_after-shorter = after-shorter Qualified qualified qualified-sound spends-qualified
 
-as-throws : (y : List (List Word)) (ts mid rest : List Token) → Mark k.Throws ts mid → Joined k.Comma Qualified y mid rest → Throws y ts rest
+as-throws : (y : List (List Lexeme)) (ts mid rest : List Token) → Mark k.Throws ts mid → Joined k.Comma Qualified y mid rest → Throws y ts rest
 as-throws [] ts mid rest s1 s = absurd s
 as-throws (name ∷ names) ts mid rest s1 s = (mid, s1, s)
 
-throws_by-sound : (b : Bool) (ts rest : List Token) (y : List (List Word)) → throws_by b ts ≡ Found y rest → Throws y ts rest
+throws_by-sound : (b : Bool) (ts rest : List Token) (y : List (List Lexeme)) → throws_by b ts ≡ Found y rest → Throws y ts rest
 unfolding some_throws
 throws_by-sound true ts rest y e =
     let (at, t1, is1, e1) = and_then-some (sign k.Throws ts) _ y rest e in
@@ -138,17 +138,17 @@ throws_by-sound true ts rest y e =
     as-throws y ts t1 rest (mark-sound k.Throws ts t1 at is1) (joined-sound Qualified qualified qualified-sound (sees k.Comma) k.Comma name t1 t2 rest y (qualified-sound t1 t2 name is2) e2).0
 throws_by-sound false ts rest y e = pure-is (λ y r. Throws y ts r) [] y ts rest e refl
 
-pub throws-sound : (ts rest : List Token) (y : List (List Word)) → throws ts ≡ Found y rest → Throws y ts rest
+pub throws-sound : (ts rest : List Token) (y : List (List Lexeme)) → throws ts ≡ Found y rest → Throws y ts rest
 unfolding throws
 throws-sound ts rest y e = throws_by-sound (sees k.Throws ts) ts rest y e
 
 comma-dot : (ts rest : List Token) → Mark k.Comma ts rest → goes_on ts ≡ false
 comma-dot ts rest s = goes_off k.Comma ts (next-mark k.Comma ts rest s) refl
 
-comma-goes : (y : List Word) (ts mid rest : List Token) → Mark k.Comma ts mid → Qualified y mid rest → sees k.Comma ts ≡ true
+comma-goes : (y : List Lexeme) (ts mid rest : List Token) → Mark k.Comma ts mid → Qualified y mid rest → sees k.Comma ts ≡ true
 comma-goes y ts mid rest s q = sees-kind k.Comma k.Comma ts (next-mark k.Comma ts mid s)
 
-some_throws-complete : (name : List Word) (names : List (List Word)) (ts t1 rest : List Token) → Mark k.Throws ts t1 → Joined k.Comma Qualified (name ∷ names) t1 rest → sees k.Comma rest ≡ false → goes_on rest ≡ false → some_throws ts ≡ Found (name ∷ names) rest
+some_throws-complete : (name : List Lexeme) (names : List (List Lexeme)) (ts t1 rest : List Token) → Mark k.Throws ts t1 → Joined k.Comma Qualified (name ∷ names) t1 rest → sees k.Comma rest ≡ false → goes_on rest ≡ false → some_throws ts ≡ Found (name ∷ names) rest
 unfolding some_throws
 some_throws-complete name names ts t1 rest s1 (mid, s, each) stops dot =
     let (at, is) = mark-complete k.Throws ts t1 s1 in
@@ -156,14 +156,14 @@ some_throws-complete name names ts t1 rest s1 (mid, s, each) stops dot =
     rw (is, qualified-complete name t1 mid s behind)
     (joined-complete Qualified qualified (λ l. goes_on l ≡ false) qualified-complete (sees k.Comma) k.Comma spends-qualified comma-goes comma-dot name names mid rest each dot stops)
 
-pub throws-complete : (y : List (List Word)) (ts rest : List Token) → Throws y ts rest → AfterThrows rest → throws ts ≡ Found y rest
+pub throws-complete : (y : List (List Lexeme)) (ts rest : List Token) → Throws y ts rest → AfterThrows rest → throws ts ≡ Found y rest
 unfolding throws
 throws-complete [] ts rest s after = let P : List Token → Type 0 = λ l. throws l ≡ Found [] rest in subst P (sym s) (rw after.none refl)
 throws-complete (name ∷ names) ts rest (mid, s1, s) after =
     rw (sees-kind k.Throws k.Throws ts (next-mark k.Throws ts mid s1)) (some_throws-complete name names ts mid rest s1 s after.comma after.dot)
 
 -- a sign behind throws stands behind the parameters too
-pub throws-first : (y : List (List Word)) (ts rest : List Token) → Throws y ts rest → sees k.LBracket rest ≡ false → sees k.LBracket ts ≡ false
+pub throws-first : (y : List (List Lexeme)) (ts rest : List Token) → Throws y ts rest → sees k.LBracket rest ≡ false → sees k.LBracket ts ≡ false
 throws-first [] ts rest s off = let P : List Token → Type 0 = λ l. sees k.LBracket l ≡ false in subst P (sym s) off
 throws-first (name ∷ names) ts rest (mid, s1, s) off = sees-kind k.LBracket k.Throws ts (next-mark k.Throws ts mid s1)
 

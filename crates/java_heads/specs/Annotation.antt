@@ -2,7 +2,7 @@
 use Rattle.std.specs.Prelude.{◌≡◌, ℕ, zero, suc, List, [], ◌∷◌, Option, Some, None, codes}
 use Rattle.java_tree.specs.declared.kind.Kind.{Kind}
 use Rattle.java_tree.specs.declared.kind.Kind.TheVariants as k
-use Rattle.java_tree.specs.declared.token.Word.{Word}
+use Rattle.java_tree.specs.declared.token.Lexeme.{Lexeme}
 use Rattle.java_tree.specs.declared.member.Annot.{Annot, out-Annot}
 use Rattle.java_tree.specs.declared.member.Elements.{Elements, out-Elements}
 use Rattle.java_tree.specs.declared.member.Elem.{Elem, out-Elem}
@@ -15,16 +15,16 @@ Joined sign P [] = Never
 Joined sign P (x ∷ xs) = P x ⨾ Each (λ y. Mark sign ⨾ P y) xs
 
 -- Qname = Name {"." Name}
-abbrev pub Qualified : List Word → Phrase
+abbrev pub Qualified : List Lexeme → Phrase
 Qualified = Joined k.Dot (Spelled k.Name)
 
 abbrev pub value_name : List ℕ
 value_name = codes "value"
 
 -- ["value" "="]
-abbrev pub ValueWord : Option Word → Phrase
+abbrev pub ValueWord : Option Lexeme → Phrase
 ValueWord None = Nothing
-ValueWord (Some word) = (word.name ≡ value_name) ⊢ Spelled k.Name word ⨾ Mark k.Assign
+ValueWord (Some word) = (word.text ≡ value_name) ⊢ Spelled k.Name word ⨾ Mark k.Assign
 
 -- ["(" [["value" "="] (Elem | "{" [Elem {"," Elem}] "}")] ")"], where Inner spells an element
 abbrev pub ElementsBy : (Elem → Phrase) → Elements-F Elem Elements Annot → Phrase

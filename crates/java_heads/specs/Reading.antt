@@ -6,7 +6,7 @@ use Rattle.desk_base.specs.declared.span.Span.{Span}
 use Rattle.java_tree.specs.declared.kind.Kind.{Kind}
 use Rattle.java_tree.specs.declared.kind.Kind.TheVariants as k
 use Rattle.java_tree.specs.declared.token.Token.{Token}
-use Rattle.java_tree.specs.declared.token.Word.{Word}
+use Rattle.java_tree.specs.declared.token.Lexeme.{Lexeme}
 use Rattle.java_tree.specs.declared.member.Annot.{Annot, roll-Annot}
 use Rattle.java_tree.specs.declared.member.Elements.{Elements}
 use Rattle.java_tree.specs.declared.member.Elements.TheVariants as elements
@@ -64,25 +64,25 @@ is_name _ = false
 unfoldable pub goes_on : List Token → Bool
 goes_on ts = sees k.Dot ts && is_name (kind_at 1 ts)
 
-unfoldable pub qualified : Parser (List Word)
+unfoldable pub qualified : Parser (List Lexeme)
 qualified = do
   first ← word k.Name
   turns goes_on (after k.Dot (word k.Name)) (first ∷ [])
 
 -- ---- annotations
 
-abbrev pub value_by : Bool → Parser (Option Word)
+abbrev pub value_by : Bool → Parser (Option Lexeme)
 value_by false = pure None
 value_by true = do
   name ← word k.Name
-  if bytes_eq name.name value_name then (do sign k.Assign; pure (Some name)) else fail
+  if bytes_eq name.text value_name then (do sign k.Assign; pure (Some name)) else fail
 
-unfoldable pub value_word : Parser (Option Word)
+unfoldable pub value_word : Parser (Option Lexeme)
 value_word = do
   named ← look k.Name
   value_by named
 
-abbrev pub frame : Span → List Word → Span → Option Word → Bool → Frame
+abbrev pub frame : Span → List Lexeme → Span → Option Lexeme → Bool → Frame
 frame at name opening value in_braces =
     record { at = at; name = name; opening = opening; value = value; in_braces = in_braces; elems = [] }
 
@@ -90,7 +90,7 @@ abbrev pub with_elem : Frame → Elem → Frame
 with_elem f elem =
     record { at = f.at; name = f.name; opening = f.opening; value = f.value; in_braces = f.in_braces; elems = f.elems ++ elem ∷ [] }
 
-abbrev pub annot : Span → List Word → Elements → Annot
+abbrev pub annot : Span → List Lexeme → Elements → Annot
 annot at name elements = roll-Annot (record { at = at; name = name; elements = elements })
 
 abbrev pub one_tree : Frame → Elem → Span → Annot
@@ -110,7 +110,7 @@ abbrev pub listed_by : Frame → Bool → Parser Opened
 listed_by f true = closed f
 listed_by f false = pure (opened.Open f)
 
-abbrev pub inside_by : Span → List Word → Span → Option Word → Bool → Parser Opened
+abbrev pub inside_by : Span → List Lexeme → Span → Option Lexeme → Bool → Parser Opened
 inside_by at name opening value false = pure (opened.Open (frame at name opening value false))
 inside_by at name opening value true = do
   sign k.LBrace
@@ -118,25 +118,25 @@ inside_by at name opening value true = do
   listed_by (frame at name opening value true) ended
 
 -- what stands behind the parenthesis of an annotation with elements, up to its first element
-unfoldable pub inside : Span → List Word → Span → Parser Opened
+unfoldable pub inside : Span → List Lexeme → Span → Parser Opened
 inside at name opening = do
   value ← value_word
   in_braces ← look k.LBrace
   inside_by at name opening value in_braces
 
-abbrev pub filled_by : Span → List Word → Span → Bool → Parser Opened
+abbrev pub filled_by : Span → List Lexeme → Span → Bool → Parser Opened
 filled_by at name opening true = do
   closing ← sign k.RParen
   pure (opened.Whole (annot at name (elements.Empty opening closing)))
 filled_by at name opening false = inside at name opening
 
-unfoldable pub parenthesized : Span → List Word → Parser Opened
+unfoldable pub parenthesized : Span → List Lexeme → Parser Opened
 parenthesized at name = do
   opening ← sign k.LParen
   ended ← look k.RParen
   filled_by at name opening ended
 
-abbrev pub head_by : Span → List Word → Bool → Parser Opened
+abbrev pub head_by : Span → List Lexeme → Bool → Parser Opened
 head_by at name true = parenthesized at name
 head_by at name false = pure (opened.Whole (annot at name elements.Bare))
 
@@ -310,17 +310,17 @@ parameters = do
   sign k.RParen
   if nat_le (length found) 255 then pure found else fail
 
-unfoldable pub some_throws : Parser (List (List Word))
+unfoldable pub some_throws : Parser (List (List Lexeme))
 some_throws = do
   sign k.Throws
   first ← qualified
   turns (sees k.Comma) (after k.Comma qualified) (first ∷ [])
 
-abbrev pub throws_by : Bool → Parser (List (List Word))
+abbrev pub throws_by : Bool → Parser (List (List Lexeme))
 throws_by true = some_throws
 throws_by false = pure []
 
-unfoldable pub throws : Parser (List (List Word))
+unfoldable pub throws : Parser (List (List Lexeme))
 throws = do
   has_some ← look k.Throws
   throws_by has_some
@@ -339,7 +339,7 @@ result_type = do
 unfoldable pub small : Parser Init
 small = do
   number ← word k.IntLiteral
-  if bytes_eq number.name smallest_digits then fail else pure (init.Int number)
+  if bytes_eq number.text smallest_digits then fail else pure (init.Int number)
 
 unfoldable pub negative : Parser Init
 negative = do
@@ -347,10 +347,10 @@ negative = do
   number ← word k.IntLiteral
   pure (init.MinusInt at number)
 
-unfoldable pub named : List ℕ → Parser Word
+unfoldable pub named : List ℕ → Parser Lexeme
 named text = do
   name ← word k.Name
-  if bytes_eq name.name text then pure name else fail
+  if bytes_eq name.text text then pure name else fail
 
 unfoldable pub new_object : Parser Init
 new_object = do
@@ -383,7 +383,7 @@ init_part = do
   init_by has_one
 
 -- a field behind its name; its tokens are kept afterwards
-unfoldable pub field_end : List Mod → Ty → Word → Parser Field
+unfoldable pub field_end : List Mod → Ty → Lexeme → Parser Field
 field_end mods of_type name = do
   value ← init_part
   sign k.Semicolon
@@ -454,31 +454,31 @@ unfoldable pub is_free : List ℕ → Bool
 is_free name = not (bytes_eq name object_name) && (not (bytes_eq name string_name) && (not (bytes_eq name runnable_name) && not (bytes_eq name thread_name)))
 
 -- the name of a declared type
-unfoldable pub type_name : Parser Word
+unfoldable pub type_name : Parser Lexeme
 type_name = do
   name ← word k.Name
-  if is_free name.name then pure name else fail
+  if is_free name.text then pure name else fail
 
-unfoldable pub some_interfaces : Parser (List Word)
+unfoldable pub some_interfaces : Parser (List Lexeme)
 some_interfaces = do
   sign k.Implements
   first ← word k.Name
   turns (sees k.Comma) (after k.Comma (word k.Name)) (first ∷ [])
 
-abbrev pub interfaces_by : Bool → Parser (List Word)
+abbrev pub interfaces_by : Bool → Parser (List Lexeme)
 interfaces_by true = some_interfaces
 interfaces_by false = pure []
 
-unfoldable pub class_interfaces : Parser (List Word)
+unfoldable pub class_interfaces : Parser (List Lexeme)
 class_interfaces = do
   has_some ← look k.Implements
   interfaces_by has_some
 
-abbrev pub interfaces : TypeKind → Parser (List Word)
+abbrev pub interfaces : TypeKind → Parser (List Lexeme)
 interfaces sort.Class = class_interfaces
 interfaces sort.Interface = pure []
 
-abbrev pub header_of : List Mod → TypeKind → Word → List Word → Header
+abbrev pub header_of : List Mod → TypeKind → Lexeme → List Lexeme → Header
 header_of mods kind name implements = record { mods = mods; kind = kind; name = name; implements = implements; tokens = [] }
 
 -- the header without its brace

@@ -5,7 +5,7 @@ use Rattle.desk_base.specs.declared.span.Span.{Span}
 use Rattle.java_tree.specs.declared.kind.Kind.{Kind}
 use Rattle.java_tree.specs.declared.kind.Kind.TheVariants as k
 use Rattle.java_tree.specs.declared.token.Token.{Token}
-use Rattle.java_tree.specs.declared.token.Word.{Word}
+use Rattle.java_tree.specs.declared.token.Lexeme.{Lexeme}
 use Rattle.java_tree.specs.declared.member.Mod.{Mod}
 use Rattle.java_tree.specs.declared.member.Mod.TheVariants as modifier
 use Rattle.java_tree.specs.declared.member.Ty.{Ty}
@@ -61,7 +61,7 @@ abbrev pub Params : List Param → Phrase
 Params params = (length params ≤ 255) ⊢ Mark k.LParen ⨾ Separated ParamSpells params ⨾ Mark k.RParen
 
 -- [Throws], Throws = "throws" Qname {"," Qname}
-abbrev pub Throws : List (List Word) → Phrase
+abbrev pub Throws : List (List Lexeme) → Phrase
 Throws [] = Nothing
 Throws (name ∷ names) = Mark k.Throws ⨾ Joined k.Comma Qualified (name ∷ names)
 
@@ -81,7 +81,7 @@ object_name = codes "Object"
 
 -- Init = ["-"] Int | "true" | "false" | "null" | Str | "new" "Object" "(" ")"
 abbrev pub InitSpells : Init → Phrase
-InitSpells (init.Int word) = (word.name ≢ smallest_digits) ⊢ Spelled k.IntLiteral word
+InitSpells (init.Int word) = (word.text ≢ smallest_digits) ⊢ Spelled k.IntLiteral word
 InitSpells (init.MinusInt at word) = Sign k.Minus at ⨾ Spelled k.IntLiteral word
 InitSpells (init.True at) = Sign k.True at
 InitSpells (init.False at) = Sign k.False at
@@ -132,7 +132,7 @@ type_word sort.Class = k.Class
 type_word sort.Interface = k.Interface
 
 -- ["implements" Name {"," Name}], of a class alone
-abbrev pub Implements : TypeKind → List Word → Phrase
+abbrev pub Implements : TypeKind → List Lexeme → Phrase
 Implements kind [] = Nothing
 Implements sort.Class (name ∷ names) = Mark k.Implements ⨾ Joined k.Comma (Spelled k.Name) (name ∷ names)
 Implements sort.Interface (name ∷ names) = Never
@@ -156,7 +156,7 @@ pub record IsFreeName (name : List ℕ) : Type 0 where
 -- Mods "class" Name ["implements" Name {"," Name}] | Mods "interface" Name
 abbrev pub HeaderParts : Header → Phrase
 HeaderParts h =
-    Mods (declared_as h.kind) h.mods ⨾ Mark (type_word h.kind) ⨾ IsFreeName h.name.name ⊢ Spelled k.Name h.name ⨾ Implements h.kind h.implements
+    Mods (declared_as h.kind) h.mods ⨾ Mark (type_word h.kind) ⨾ IsFreeName h.name.text ⊢ Spelled k.Name h.name ⨾ Implements h.kind h.implements
 
 -- a header and "{", which isn't among its tokens
 abbrev pub HeaderSpells : Header → Phrase

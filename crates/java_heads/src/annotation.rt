@@ -8,20 +8,20 @@ use crate::names::read_qualified;
 use crate::nest::{Frame, Nest, Opened};
 use desk_base::Span;
 use java_phrases::{SyntaxError, Tokens};
-use java_tree::{Annot, Elem, Elements, Kind, Word};
+use java_tree::{Annot, Elem, Elements, Kind, Lexeme};
 use sqlite_items::{Boxed, Items};
 use std::alloc::Global;
 
 /// The word `value` and its `=`, if a name stands next.
 #[tactic(auto, unfolding(crate::specs::Reading::value_word))]
-fn value_word(alloc: Global, tokens: &mut Tokens) -> Result<Option<Word>, SyntaxError>
+fn value_word(alloc: Global, tokens: &mut Tokens) -> Result<Option<Lexeme>, SyntaxError>
     ensures { Steps spec.value_word tokens.old result tokens.new }
 {
     if !tokens.sees(Kind::Name) {
         return Ok(None);
     }
     let name = tokens.word(alloc, Kind::Name)?;
-    if name.name.as_slice() != b"value".as_slice() {
+    if name.text.as_slice() != b"value".as_slice() {
         return Err(SyntaxError::NotSpelled);
     }
     tokens.sign(Kind::Assign)?;
@@ -48,7 +48,7 @@ fn inside(
     alloc: Global,
     tokens: &mut Tokens,
     at: Span,
-    name: Items<Word>,
+    name: Items<Lexeme>,
     opening: Span,
 ) -> Result<Opened, SyntaxError>
     ensures { Steps (spec.inside at name opening) tokens.old result tokens.new }
@@ -79,7 +79,7 @@ fn parenthesized(
     alloc: Global,
     tokens: &mut Tokens,
     at: Span,
-    name: Items<Word>,
+    name: Items<Lexeme>,
 ) -> Result<Opened, SyntaxError>
     ensures { Steps (spec.parenthesized at name) tokens.old result tokens.new }
 {

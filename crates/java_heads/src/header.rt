@@ -11,17 +11,17 @@ use crate::declaration::Declaration;
 use crate::modifiers::{modifiers_fit, read_all_modifiers};
 use crate::names::name_after;
 use java_phrases::{SyntaxError, Tokens};
-use java_tree::{Kind, Mod, Token, TypeKind, Word};
+use java_tree::{Kind, Lexeme, Mod, Token, TypeKind};
 use sqlite_items::Items;
 use std::alloc::Global;
 
 /// What stands before the members of a class or an interface. Its tokens are those before the `{`.
-#[derive(Debug, Drop)]
+#[derive(Drop)]
 pub struct Header {
     pub mods: Items<Mod>,
     pub kind: TypeKind,
-    pub name: Word,
-    pub implements: Items<Word>,
+    pub name: Lexeme,
+    pub implements: Items<Lexeme>,
     pub tokens: Items<Token>,
 }
 
@@ -62,11 +62,11 @@ fn is_free(name: &[u8]) -> bool
 }
 
 #[tactic(auto, unfolding(crate::specs::Reading::type_name))]
-fn type_name(alloc: Global, tokens: &mut Tokens) -> Result<Word, SyntaxError>
+fn type_name(alloc: Global, tokens: &mut Tokens) -> Result<Lexeme, SyntaxError>
     ensures { Steps spec.type_name tokens.old result tokens.new }
 {
     let name = tokens.word(alloc, Kind::Name)?;
-    if !is_free(name.name.as_slice()) {
+    if !is_free(name.text.as_slice()) {
         return Err(SyntaxError::NotSpelled);
     }
     Ok(name)
@@ -75,8 +75,8 @@ fn type_name(alloc: Global, tokens: &mut Tokens) -> Result<Word, SyntaxError>
 fn more_interfaces(
     alloc: Global,
     tokens: &mut Tokens,
-    found: Items<Word>,
-) -> Result<Items<Word>, SyntaxError>
+    found: Items<Lexeme>,
+) -> Result<Items<Lexeme>, SyntaxError>
     ensures { Steps (turns (sees k.Comma) (spec.after k.Comma (word k.Name)) found) tokens.old result tokens.new }
 {
     let mut found = found;
@@ -87,7 +87,7 @@ fn more_interfaces(
 }
 
 #[tactic(auto, unfolding(crate::specs::Reading::some_interfaces))]
-fn some_interfaces(alloc: Global, tokens: &mut Tokens) -> Result<Items<Word>, SyntaxError>
+fn some_interfaces(alloc: Global, tokens: &mut Tokens) -> Result<Items<Lexeme>, SyntaxError>
     ensures { Steps spec.some_interfaces tokens.old result tokens.new }
 {
     tokens.sign(Kind::Implements)?;
@@ -97,7 +97,7 @@ fn some_interfaces(alloc: Global, tokens: &mut Tokens) -> Result<Items<Word>, Sy
 }
 
 #[tactic(auto, unfolding(crate::specs::Reading::class_interfaces))]
-fn class_interfaces(alloc: Global, tokens: &mut Tokens) -> Result<Items<Word>, SyntaxError>
+fn class_interfaces(alloc: Global, tokens: &mut Tokens) -> Result<Items<Lexeme>, SyntaxError>
     ensures { Steps spec.class_interfaces tokens.old result tokens.new }
 {
     if tokens.sees(Kind::Implements) {
@@ -111,7 +111,7 @@ fn interfaces(
     alloc: Global,
     tokens: &mut Tokens,
     kind: TypeKind,
-) -> Result<Items<Word>, SyntaxError>
+) -> Result<Items<Lexeme>, SyntaxError>
     ensures { Steps (spec.interfaces kind) tokens.old result tokens.new }
 {
     match kind {

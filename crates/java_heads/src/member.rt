@@ -8,7 +8,7 @@ use crate::declaration::Declaration;
 use crate::modifiers::read_modifiers;
 use crate::parameters::{read_parameters, read_result, read_throws};
 use java_phrases::{SyntaxError, Tokens, read_type};
-use java_tree::{Field, Init, Kind, Mod, Sig, Ty, Word};
+use java_tree::{Field, Init, Kind, Lexeme, Mod, Sig, Ty};
 use sqlite_items::Items;
 use std::alloc::Global;
 
@@ -17,7 +17,7 @@ fn small(alloc: Global, tokens: &mut Tokens) -> Result<Init, SyntaxError>
     ensures { Steps spec.small tokens.old result tokens.new }
 {
     let number = tokens.word(alloc, Kind::IntLiteral)?;
-    if number.name.as_slice() == b"2147483648".as_slice() {
+    if number.text.as_slice() == b"2147483648".as_slice() {
         return Err(SyntaxError::NotSpelled);
     }
     Ok(Init::Int(number))
@@ -34,11 +34,11 @@ fn negative(alloc: Global, tokens: &mut Tokens) -> Result<Init, SyntaxError>
 
 /// Reads a name that is written so.
 #[tactic(auto, unfolding(crate::specs::Reading::named))]
-pub fn read_named(alloc: Global, tokens: &mut Tokens, text: &[u8]) -> Result<Word, SyntaxError>
+pub fn read_named(alloc: Global, tokens: &mut Tokens, text: &[u8]) -> Result<Lexeme, SyntaxError>
     ensures { Steps (spec.named text.now) tokens.old result tokens.new }
 {
     let name = tokens.word(alloc, Kind::Name)?;
-    if name.name.as_slice() != text {
+    if name.text.as_slice() != text {
         return Err(SyntaxError::NotSpelled);
     }
     Ok(name)
@@ -89,7 +89,7 @@ pub fn read_field_end(
     tokens: &mut Tokens,
     mods: Items<Mod>,
     ty: Ty,
-    name: Word,
+    name: Lexeme,
 ) -> Result<Field, SyntaxError>
     ensures { Steps (spec.field_end mods ty name) tokens.old result tokens.new }
 {

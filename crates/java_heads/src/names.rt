@@ -7,7 +7,7 @@ ghost use Rattle.java_phrases.specs.Cursor.{ahead, Steps};
 ghost use Rattle.java_heads.specs.Reading as spec;
 
 use java_phrases::{SyntaxError, Tokens};
-use java_tree::{Kind, Word};
+use java_tree::{Kind, Lexeme};
 use sqlite_items::Items;
 use std::alloc::Global;
 
@@ -24,8 +24,8 @@ pub(crate) fn name_after(
     alloc: Global,
     tokens: &mut Tokens,
     before: Kind,
-    found: Items<Word>,
-) -> Result<Items<Word>, SyntaxError>
+    found: Items<Lexeme>,
+) -> Result<Items<Lexeme>, SyntaxError>
     ensures { Steps (spec.after before (word k.Name) found) tokens.old result tokens.new }
 {
     let mut found = found;
@@ -37,8 +37,8 @@ pub(crate) fn name_after(
 fn more_names(
     alloc: Global,
     tokens: &mut Tokens,
-    found: Items<Word>,
-) -> Result<Items<Word>, SyntaxError>
+    found: Items<Lexeme>,
+) -> Result<Items<Lexeme>, SyntaxError>
     ensures { Steps (turns spec.goes_on (spec.after k.Dot (word k.Name)) found) tokens.old result tokens.new }
 {
     let mut found = found;
@@ -50,7 +50,7 @@ fn more_names(
 
 /// Reads a qualified name, as far as a name follows each dot (JLS 8, 6.5).
 #[tactic(auto, unfolding(crate::specs::Reading::qualified))]
-pub fn read_qualified(alloc: Global, tokens: &mut Tokens) -> Result<Items<Word>, SyntaxError>
+pub fn read_qualified(alloc: Global, tokens: &mut Tokens) -> Result<Items<Lexeme>, SyntaxError>
     ensures { Steps spec.qualified tokens.old result tokens.new }
 {
     let mut names = Items::new(alloc);

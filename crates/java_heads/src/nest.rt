@@ -2,16 +2,16 @@
 //! they may nest as deep as a file is long.
 
 use desk_base::Span;
-use java_tree::{Annot, Elem, Word};
+use java_tree::{Annot, Elem, Lexeme};
 use sqlite_items::Items;
 
 /// An annotation that is open, and its elements so far. Another one is to come.
 #[derive(Drop)]
 pub(crate) struct Frame {
     pub(crate) at: Span,
-    pub(crate) name: Items<Word>,
+    pub(crate) name: Items<Lexeme>,
     pub(crate) opening: Span,
-    pub(crate) value: Option<Word>,
+    pub(crate) value: Option<Lexeme>,
     pub(crate) in_braces: bool,
     pub(crate) elems: Items<Elem>,
 }

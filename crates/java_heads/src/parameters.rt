@@ -10,7 +10,7 @@ use crate::declaration::Declaration;
 use crate::modifiers::read_modifiers;
 use crate::names::read_qualified;
 use java_phrases::{SyntaxError, Tokens, read_type};
-use java_tree::{Kind, Param, Ty, Word};
+use java_tree::{Kind, Lexeme, Param, Ty};
 use sqlite_items::Items;
 use std::alloc::Global;
 
@@ -86,8 +86,8 @@ pub fn read_parameters(alloc: Global, tokens: &mut Tokens) -> Result<Items<Param
 fn thrown_after(
     alloc: Global,
     tokens: &mut Tokens,
-    found: Items<Items<Word>>,
-) -> Result<Items<Items<Word>>, SyntaxError>
+    found: Items<Items<Lexeme>>,
+) -> Result<Items<Items<Lexeme>>, SyntaxError>
     ensures { Steps (spec.after k.Comma spec.qualified found) tokens.old result tokens.new }
 {
     let mut found = found;
@@ -99,8 +99,8 @@ fn thrown_after(
 fn more_throws(
     alloc: Global,
     tokens: &mut Tokens,
-    found: Items<Items<Word>>,
-) -> Result<Items<Items<Word>>, SyntaxError>
+    found: Items<Items<Lexeme>>,
+) -> Result<Items<Items<Lexeme>>, SyntaxError>
     ensures { Steps (turns (sees k.Comma) (spec.after k.Comma spec.qualified) found) tokens.old result tokens.new }
 {
     let mut found = found;
@@ -111,7 +111,7 @@ fn more_throws(
 }
 
 #[tactic(auto, unfolding(crate::specs::Reading::some_throws))]
-fn some_throws(alloc: Global, tokens: &mut Tokens) -> Result<Items<Items<Word>>, SyntaxError>
+fn some_throws(alloc: Global, tokens: &mut Tokens) -> Result<Items<Items<Lexeme>>, SyntaxError>
     ensures { Steps spec.some_throws tokens.old result tokens.new }
 {
     tokens.sign(Kind::Throws)?;
@@ -122,7 +122,7 @@ fn some_throws(alloc: Global, tokens: &mut Tokens) -> Result<Items<Items<Word>>,
 
 /// Reads `throws` and what it names, if it stands next (JLS 8, 8.4.6).
 #[tactic(auto, unfolding(crate::specs::Reading::throws))]
-pub fn read_throws(alloc: Global, tokens: &mut Tokens) -> Result<Items<Items<Word>>, SyntaxError>
+pub fn read_throws(alloc: Global, tokens: &mut Tokens) -> Result<Items<Items<Lexeme>>, SyntaxError>
     ensures { Steps spec.throws tokens.old result tokens.new }
 {
     if tokens.sees(Kind::Throws) {

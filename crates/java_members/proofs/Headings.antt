@@ -6,7 +6,7 @@ use Rattle.desk_base.specs.declared.span.Span.{Span}
 use Rattle.java_tree.specs.declared.kind.Kind.{Kind}
 use Rattle.java_tree.specs.declared.kind.Kind.TheVariants as k
 use Rattle.java_tree.specs.declared.token.Token.{Token}
-use Rattle.java_tree.specs.declared.token.Word.{Word}
+use Rattle.java_tree.specs.declared.token.Lexeme.{Lexeme}
 use Rattle.java_tree.specs.declared.member.Mod.{Mod}
 use Rattle.java_tree.specs.declared.member.Mod.TheVariants as modifier
 use Rattle.java_tree.specs.declared.member.ModWord.{ModWord}
@@ -43,11 +43,11 @@ abbrev pub MethodHead : MethodHeading → Phrase
 MethodHead h = Mods of.Method h.mods ⨾ ResultSpells h.result ⨾ Spelled k.Name h.name ⨾ Params h.params ⨾ Throws h.throws
 
 abbrev pub CtorHead : List ℕ → CtorHeading → Phrase
-CtorHead class h = Mods of.Ctor h.mods ⨾ (h.name.name ≡ class) ⊢ Spelled k.Name h.name ⨾ Params h.params ⨾ Throws h.throws
+CtorHead class h = Mods of.Ctor h.mods ⨾ (h.name.text ≡ class) ⊢ Spelled k.Name h.name ⨾ Params h.params ⨾ Throws h.throws
 
 abbrev pub MainHead : MainHeading → Phrase
 MainHead h =
-    Mods of.Main h.mods ⨾ Mark k.Void ⨾ (h.name.name ≡ main_name) ⊢ Spelled k.Name h.name
+    Mods of.Main h.mods ⨾ Mark k.Void ⨾ (h.name.text ≡ main_name) ⊢ Spelled k.Name h.name
     ⨾ Mark k.LParen ⨾ Perhaps k.Final h.final_word ⨾ NameIs string_name ⨾ Mark k.LBracket ⨾ Mark k.RBracket ⨾ Spelled k.Name h.param ⨾ Mark k.RParen
     ⨾ Throws h.throws
 
@@ -59,7 +59,7 @@ HeadingSpells class (heading.Main h) = MainHead h
 
 -- ---- what was read is spelled
 
-method_if : (b : Bool) (class : List ℕ) (mods : List Mod) (result : Option Ty) (name : Word) (start t1 t2 ts rest : List Token) (o : Heading) → fits of.Method mods ≡ b → Each ModSpells mods start t1 → ResultSpells result t1 t2 → Spelled k.Name name t2 ts
+method_if : (b : Bool) (class : List ℕ) (mods : List Mod) (result : Option Ty) (name : Lexeme) (start t1 t2 ts rest : List Token) (o : Heading) → fits of.Method mods ≡ b → Each ModSpells mods start t1 → ResultSpells result t1 t2 → Spelled k.Name name t2 ts
     → cond b (parameters >>= (λ params. throws >>= (λ thrown. pure (heading.Method (record { mods = mods; result = result; name = name; params = params; throws = thrown }))))) fail ts ≡ Found o rest → HeadingSpells class o start rest
 method_if true class mods result name start t1 t2 ts rest o is s1 s2 s3 e =
     let (params, t4, is4, e4) = and_then-some (parameters ts) _ o rest e in
@@ -68,12 +68,12 @@ method_if true class mods result name start t1 t2 ts rest o is s1 s2 s3 e =
     (t1, (fits-sound of.Method mods is, s1), (t2, s2, (ts, s3, (t4, parameters-sound ts t4 params is4, throws-sound t4 t5 thrown is5))))
 method_if false class mods result name start t1 t2 ts rest o is s1 s2 s3 e = cc
 
-method_end-sound : (class : List ℕ) (mods : List Mod) (result : Option Ty) (name : Word) (start t1 t2 ts rest : List Token) (o : Heading) → Each ModSpells mods start t1 → ResultSpells result t1 t2 → Spelled k.Name name t2 ts → method_end mods result name ts ≡ Found o rest
+method_end-sound : (class : List ℕ) (mods : List Mod) (result : Option Ty) (name : Lexeme) (start t1 t2 ts rest : List Token) (o : Heading) → Each ModSpells mods start t1 → ResultSpells result t1 t2 → Spelled k.Name name t2 ts → method_end mods result name ts ≡ Found o rest
     → HeadingSpells class o start rest
 unfolding method_end
 method_end-sound class mods result name start t1 t2 ts rest o s1 s2 s3 e = method_if (fits of.Method mods) class mods result name start t1 t2 ts rest o refl s1 s2 s3 e
 
-main_if : (b c : Bool) (class : List ℕ) (mods : List Mod) (name : Word) (start t1 t2 ts rest : List Token) (o : Heading) → fits of.Main mods ≡ b → bytes_eq name.name main_name ≡ c → Each ModSpells mods start t1 → Mark k.Void t1 t2 → Spelled k.Name name t2 ts
+main_if : (b c : Bool) (class : List ℕ) (mods : List Mod) (name : Lexeme) (start t1 t2 ts rest : List Token) (o : Heading) → fits of.Main mods ≡ b → bytes_eq name.text main_name ≡ c → Each ModSpells mods start t1 → Mark k.Void t1 t2 → Spelled k.Name name t2 ts
     → cond b (cond c (sign k.LParen >>= (λ _. perhaps k.Final >>= (λ final_word. named string_name >>= (λ _. sign k.LBracket >>= (λ _. sign k.RBracket >>= (λ _. word k.Name >>= (λ param. sign k.RParen >>= (λ _. throws
     >>= (λ thrown. pure (heading.Main (record { mods = mods; name = name; final_word = final_word; param = param; throws = thrown }))))))))))) fail) fail ts ≡ Found o rest → HeadingSpells class o start rest
 main_if true true class mods name start t1 t2 ts rest o is same s1 s2 s3 e =
@@ -93,7 +93,7 @@ main_if true true class mods name start t1 t2 ts rest o is same s1 s2 s3 e =
         t2,
         s2,
         (
-          (bytes_eq-Decides name.name main_name).0 same,
+          (bytes_eq-Decides name.text main_name).0 same,
           (
             ts,
             s3,
@@ -117,11 +117,11 @@ main_if true true class mods name start t1 t2 ts rest o is same s1 s2 s3 e =
 main_if true false class mods name start t1 t2 ts rest o is same s1 s2 s3 e = cc
 main_if false c class mods name start t1 t2 ts rest o is same s1 s2 s3 e = cc
 
-main_end-sound : (class : List ℕ) (mods : List Mod) (name : Word) (start t1 t2 ts rest : List Token) (o : Heading) → Each ModSpells mods start t1 → Mark k.Void t1 t2 → Spelled k.Name name t2 ts → main_end mods name ts ≡ Found o rest → HeadingSpells class o start rest
+main_end-sound : (class : List ℕ) (mods : List Mod) (name : Lexeme) (start t1 t2 ts rest : List Token) (o : Heading) → Each ModSpells mods start t1 → Mark k.Void t1 t2 → Spelled k.Name name t2 ts → main_end mods name ts ≡ Found o rest → HeadingSpells class o start rest
 unfolding main_end
-main_end-sound class mods name start t1 t2 ts rest o s1 s2 s3 e = main_if (fits of.Main mods) (bytes_eq name.name main_name) class mods name start t1 t2 ts rest o refl refl s1 s2 s3 e
+main_end-sound class mods name start t1 t2 ts rest o s1 s2 s3 e = main_if (fits of.Main mods) (bytes_eq name.text main_name) class mods name start t1 t2 ts rest o refl refl s1 s2 s3 e
 
-void_by-sound : (b : Bool) (class : List ℕ) (mods : List Mod) (name : Word) (start t1 t2 ts rest : List Token) (o : Heading) → Each ModSpells mods start t1 → Mark k.Void t1 t2 → Spelled k.Name name t2 ts → void_by mods name b ts ≡ Found o rest → HeadingSpells class o start rest
+void_by-sound : (b : Bool) (class : List ℕ) (mods : List Mod) (name : Lexeme) (start t1 t2 ts rest : List Token) (o : Heading) → Each ModSpells mods start t1 → Mark k.Void t1 t2 → Spelled k.Name name t2 ts → void_by mods name b ts ≡ Found o rest → HeadingSpells class o start rest
 void_by-sound true class mods name start t1 t2 ts rest o s1 s2 s3 e = main_end-sound class mods name start t1 t2 ts rest o s1 s2 s3 e
 void_by-sound false class mods name start t1 t2 ts rest o s1 s2 s3 e = method_end-sound class mods None name start t1 t2 ts rest o s1 s2 s3 e
 
@@ -143,7 +143,7 @@ ctor_if true class mods start ts rest o is s1 e =
     (ts, (fits-sound of.Ctor mods is, s1), (same, (t2, s2, (t3, parameters-sound t2 t3 params is3, throws-sound t3 t4 thrown is4))))
 ctor_if false class mods start ts rest o is s1 e = cc
 
-field_if : (b : Bool) (class : List ℕ) (mods : List Mod) (y : Ty) (name : Word) (start t1 t2 ts rest : List Token) (o : Heading) → fits of.Field mods ≡ b → Each ModSpells mods start t1 → TySpells y t1 t2 → Spelled k.Name name t2 ts
+field_if : (b : Bool) (class : List ℕ) (mods : List Mod) (y : Ty) (name : Lexeme) (start t1 t2 ts rest : List Token) (o : Heading) → fits of.Field mods ≡ b → Each ModSpells mods start t1 → TySpells y t1 t2 → Spelled k.Name name t2 ts
     → cond b (field_end mods y name >>= (λ found. pure (heading.Field found))) fail ts ≡ Found o rest → HeadingSpells class o start rest
 field_if true class mods y name start t1 t2 ts rest o is s1 s2 s3 e =
     let (f, t4, is4, e4) = and_then-some (field_end mods y name ts) _ o rest e in
@@ -152,7 +152,7 @@ field_if true class mods y name start t1 t2 ts rest o is s1 s2 s3 e =
     (subst (λ g. FieldParts g start t4) (sym same) (t1, (fits-sound of.Field mods is, s1), (t2, s2, (ts, s3, s4))))
 field_if false class mods y name start t1 t2 ts rest o is s1 s2 s3 e = cc
 
-typed_by-sound : (b : Bool) (class : List ℕ) (mods : List Mod) (y : Ty) (name : Word) (start t1 t2 ts rest : List Token) (o : Heading) → Each ModSpells mods start t1 → TySpells y t1 t2 → Spelled k.Name name t2 ts → typed_by mods y name b ts ≡ Found o rest
+typed_by-sound : (b : Bool) (class : List ℕ) (mods : List Mod) (y : Ty) (name : Lexeme) (start t1 t2 ts rest : List Token) (o : Heading) → Each ModSpells mods start t1 → TySpells y t1 t2 → Spelled k.Name name t2 ts → typed_by mods y name b ts ≡ Found o rest
     → HeadingSpells class o start rest
 unfolding field_member
 typed_by-sound true class mods y name start t1 t2 ts rest o s1 s2 s3 e = method_end-sound class mods (Some y) name start t1 t2 ts rest o s1 s2 s3 e
@@ -188,7 +188,7 @@ no_name w.Abstract = refl
 no_name w.Synchronized = refl
 
 -- a parameter's first two tokens are no name and bracket
-param-no_array : (mods : List Mod) (y : Ty) (name : Word) (ts t1 t2 rest : List Token) → Each ModSpells mods ts t1 → TySpells y t1 t2 → Spelled k.Name name t2 rest → (stands k.Name 0 ts && stands k.LBracket 1 ts) ≡ false
+param-no_array : (mods : List Mod) (y : Ty) (name : Lexeme) (ts t1 t2 rest : List Token) → Each ModSpells mods ts t1 → TySpells y t1 t2 → Spelled k.Name name t2 rest → (stands k.Name 0 ts && stands k.LBracket 1 ts) ≡ false
 unfolding stands kind_at
 param-no_array [] (tree.Int at) name ts t1 t2 rest each (t, e, is, stands_at) s = let first : ts ≡ t ∷ t2 = each ∙ e in rw (first, is) refl
 param-no_array [] (tree.Boolean at) name ts t1 t2 rest each (t, e, is, stands_at) s = let first : ts ≡ t ∷ t2 = each ∙ e in rw (first, is) refl
@@ -225,7 +225,7 @@ word-first w.Final t u ts rest e is none more = final-first t u ts rest e is mor
 word-first w.Abstract t u ts rest e is none more = other-first t u k.Abstract ts rest e is refl none
 word-first w.Synchronized t u ts rest e is none more = other-first t u k.Synchronized ts rest e is refl none
 
-some-param : (mods : List Mod) (y : Ty) (name : Word) (t : Token) (ts t1 t2 rest : List Token) → Each ModSpells mods ts t1 → TySpells y t1 t2 → Spelled k.Name name t2 rest → takes_array (t ∷ ts) ≡ false
+some-param : (mods : List Mod) (y : Ty) (name : Lexeme) (t : Token) (ts t1 t2 rest : List Token) → Each ModSpells mods ts t1 → TySpells y t1 t2 → Spelled k.Name name t2 rest → takes_array (t ∷ ts) ≡ false
 some-param [] (tree.Int at) name t ts t1 t2 rest each (u, e, is, stood) s = other-first t u k.IntType ts t2 (each ∙ e) is refl (param-no_array [] (tree.Int at) name ts t1 t2 rest each (u, e, is, stood) s)
 some-param [] (tree.Boolean at) name t ts t1 t2 rest each (u, e, is, stood) s = other-first t u k.BooleanType ts t2 (each ∙ e) is refl (param-no_array [] (tree.Boolean at) name ts t1 t2 rest each (u, e, is, stood) s)
 some-param [] (tree.Named of_type) name t ts t1 t2 rest each (u, e, is, stood) s = other-first t u k.Name ts t2 (each ∙ e) is refl (param-no_array [] (tree.Named of_type) name ts t1 t2 rest each (u, e, is, stood) s)
@@ -244,13 +244,13 @@ params-no_array (p ∷ params) ts rest (few, (t1, (t, e, is), (t2, (m, (a1, (fit
     let P : List Token → Type 0 = λ l. takes_array l ≡ false in
     subst P (sym e) (some-param p.mods p.ty p.name t t1 a1 a2 m s1 s2 s3)
 
-type-no_call : (y : Ty) (name : Word) (ts t1 rest : List Token) → TySpells y ts t1 → Spelled k.Name name t1 rest → calls_name ts ≡ false
+type-no_call : (y : Ty) (name : Lexeme) (ts t1 rest : List Token) → TySpells y ts t1 → Spelled k.Name name t1 rest → calls_name ts ≡ false
 unfolding calls_name stands kind_at
 type-no_call (tree.Int at) name ts t1 rest (t, e, is, stood) s = rw (e, is) refl
 type-no_call (tree.Boolean at) name ts t1 rest (t, e, is, stood) s = rw (e, is) refl
 type-no_call (tree.Named of_type) name ts t1 rest (t, e, is, stood) (u, f, was, stands_at) = rw (e, f, is, was) refl
 
-name-calls : (name : Word) (ts t1 rest : List Token) → Spelled k.Name name ts t1 → Mark k.LParen t1 rest → calls_name ts ≡ true
+name-calls : (name : Lexeme) (ts t1 rest : List Token) → Spelled k.Name name ts t1 → Mark k.LParen t1 rest → calls_name ts ≡ true
 unfolding calls_name stands kind_at
 name-calls name ts t1 rest (t, e, is, stood) (u, f, was) = rw (e, f, is, was) refl
 
@@ -281,10 +281,10 @@ pub method-complete : (class : List ℕ) (h : MethodHeading) (ts rest : List Tok
 method-complete class h ts rest (t1, (fit, s1), (t2, s2, (t3, s3, (t4, s4, s5)))) after =
     method-by h.result class h ts t1 t2 t3 t4 rest refl fit s1 s2 s3 s4 s5 after (method_end-complete h t3 t4 rest fit s4 s5 after)
 
-name-follows : (name : Word) (ts rest : List Token) → Spelled k.Name name ts rest → AfterMods ts
+name-follows : (name : Lexeme) (ts rest : List Token) → Spelled k.Name name ts rest → AfterMods ts
 name-follows name ts rest s = after-mods k.Name ts (next-word k.Name name ts rest s) refl refl refl refl refl
 
-ctor-opens : (name : Word) (params : List Param) (ts t1 rest : List Token) → Spelled k.Name name ts t1 → Params params t1 rest → calls_name ts ≡ true
+ctor-opens : (name : Lexeme) (params : List Param) (ts t1 rest : List Token) → Spelled k.Name name ts t1 → Params params t1 rest → calls_name ts ≡ true
 ctor-opens name params ts t1 rest s (few, (t2, s1, tail)) = name-calls name ts t1 t2 s s1
 
 pub ctor-complete : (class : List ℕ) (h : CtorHeading) (ts rest : List Token) → CtorHead class h ts rest → AfterThrows rest → member_heading class ts ≡ Found (heading.Ctor h) rest
@@ -303,7 +303,7 @@ ctor-complete class h ts rest (t1, (fit, s1), (same, (t2, s2, (t3, s3, s4)))) af
 next-name : (ts rest : List Token) (t : Token) → ts ≡ t ∷ rest → t.kind ≡ k.Name → next_kind ts ≡ Some k.Name
 next-name ts rest t e is = next-mark k.Name ts rest (t, e, is)
 
-main_end-complete : (h : MainHeading) (ts t4 t5 t6 t7 t8 t9 u1 rest : List Token) → FitsAs of.Main h.mods → h.name.name ≡ main_name → Mark k.LParen ts t4 → Perhaps k.Final h.final_word t4 t5 → NameIs string_name t5 t6 → Mark k.LBracket t6 t7 → Mark k.RBracket t7 t8
+main_end-complete : (h : MainHeading) (ts t4 t5 t6 t7 t8 t9 u1 rest : List Token) → FitsAs of.Main h.mods → h.name.text ≡ main_name → Mark k.LParen ts t4 → Perhaps k.Final h.final_word t4 t5 → NameIs string_name t5 t6 → Mark k.LBracket t6 t7 → Mark k.RBracket t7 t8
     → Spelled k.Name h.param t8 t9 → Mark k.RParen t9 u1 → Throws h.throws u1 rest → AfterThrows rest → main_end h.mods h.name ts ≡ Found (heading.Main h) rest
 unfolding main_end
 main_end-complete h ts t4 t5 t6 t7 t8 t9 u1 rest fit same s4 s5 s6 s7 s8 s9 s10 s11 after =
@@ -313,7 +313,7 @@ main_end-complete h ts t4 t5 t6 t7 t8 t9 u1 rest fit same s4 s5 s6 s7 s8 s9 s10 
     let (close_at, is8) = mark-complete k.RBracket t7 t8 s8 in
     let (right, is10) = mark-complete k.RParen t9 u1 s10 in
     let (t, e, is, text) = s6 in
-    rw (fits-complete of.Main h.mods fit, same_bytes h.name.name main_name same, is4, perhaps-complete k.Final h.final_word t4 t5 s5 (sees-kind k.Final k.Name t5 (next-name t5 t6 t e is)), is6, is7, is8, word-complete k.Name t8 t9 h.param s9, is10, throws-complete h.throws u1 rest s11 after) refl
+    rw (fits-complete of.Main h.mods fit, same_bytes h.name.text main_name same, is4, perhaps-complete k.Final h.final_word t4 t5 s5 (sees-kind k.Final k.Name t5 (next-name t5 t6 t e is)), is6, is7, is8, word-complete k.Name t8 t9 h.param s9, is10, throws-complete h.throws u1 rest s11 after) refl
 
 pub main-complete : (class : List ℕ) (h : MainHeading) (ts rest : List Token) → MainHead h ts rest → AfterThrows rest → member_heading class ts ≡ Found (heading.Main h) rest
 unfolding member_heading void_member
@@ -326,7 +326,7 @@ init-no_call : (value : Option Init) (ts rest : List Token) → (InitPart value 
 init-no_call None ts rest (mid, none, s) = let P : List Token → Type 0 = λ l. sees k.LParen l ≡ false in subst P (sym none) (sees-kind k.LParen k.Semicolon mid (next-mark k.Semicolon mid rest s))
 init-no_call (Some value) ts rest (mid, (t1, s, tail), end) = sees-kind k.LParen k.Assign ts (next-mark k.Assign ts t1 s)
 
-pub field-complete : (class : List ℕ) (mods : List Mod) (y : Ty) (name : Word) (value : Option Init) (ts t1 t2 t3 rest : List Token) → FitsAs of.Field mods → Each ModSpells mods ts t1 → TySpells y t1 t2 → Spelled k.Name name t2 t3 → (InitPart value ⨾ Mark k.Semicolon) t3 rest
+pub field-complete : (class : List ℕ) (mods : List Mod) (y : Ty) (name : Lexeme) (value : Option Init) (ts t1 t2 t3 rest : List Token) → FitsAs of.Field mods → Each ModSpells mods ts t1 → TySpells y t1 t2 → Spelled k.Name name t2 t3 → (InitPart value ⨾ Mark k.Semicolon) t3 rest
     → member_heading class ts ≡ Found (heading.Field (field_of mods y name value)) rest
 unfolding member_heading typed_member field_member
 field-complete class mods y name value ts t1 t2 t3 rest fit s1 s2 s3 s4 =

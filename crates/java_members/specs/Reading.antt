@@ -6,7 +6,7 @@ use Rattle.std.specs.Str.{bytes_eq}
 use Rattle.java_tree.specs.declared.kind.Kind.{Kind}
 use Rattle.java_tree.specs.declared.kind.Kind.TheVariants as k
 use Rattle.java_tree.specs.declared.token.Token.{Token}
-use Rattle.java_tree.specs.declared.token.Word.{Word}
+use Rattle.java_tree.specs.declared.token.Lexeme.{Lexeme}
 use Rattle.java_tree.specs.declared.member.Mod.{Mod}
 use Rattle.java_tree.specs.declared.member.Ty.{Ty}
 use Rattle.java_phrases.specs.Parser.{Found, Parser, ◌>>=◌, ◌>>◌, pure, fail, same_kind, kind_at, look, sign, word}
@@ -30,14 +30,14 @@ takes_array ts = if stands k.Final 1 ts then (stands k.Name 2 ts && stands k.LBr
 unfoldable pub calls_name : List Token → Bool
 calls_name ts = stands k.Name 0 ts && stands k.LParen 1 ts
 
-unfoldable pub method_end : List Mod → Option Ty → Word → Parser Heading
+unfoldable pub method_end : List Mod → Option Ty → Lexeme → Parser Heading
 method_end mods result name = if fits of.Method mods then (do
   params ← parameters
   thrown ← throws
   pure (heading.Method (record { mods = mods; result = result; name = name; params = params; throws = thrown }))) else fail
 
-unfoldable pub main_end : List Mod → Word → Parser Heading
-main_end mods name = if fits of.Main mods then (if bytes_eq name.name main_name then (do
+unfoldable pub main_end : List Mod → Lexeme → Parser Heading
+main_end mods name = if fits of.Main mods then (if bytes_eq name.text main_name then (do
   sign k.LParen
   final_word ← perhaps k.Final
   named string_name
@@ -48,7 +48,7 @@ main_end mods name = if fits of.Main mods then (if bytes_eq name.name main_name 
   thrown ← throws
   pure (heading.Main (record { mods = mods; name = name; final_word = final_word; param = param; throws = thrown }))) else fail) else fail
 
-abbrev pub void_by : List Mod → Word → Bool → Parser Heading
+abbrev pub void_by : List Mod → Lexeme → Bool → Parser Heading
 void_by mods name true = main_end mods name
 void_by mods name false = method_end mods None name
 
@@ -66,12 +66,12 @@ constructor class mods = if fits of.Ctor mods then (do
   thrown ← throws
   pure (heading.Ctor (record { mods = mods; name = name; params = params; throws = thrown }))) else fail
 
-unfoldable pub field_member : List Mod → Ty → Word → Parser Heading
+unfoldable pub field_member : List Mod → Ty → Lexeme → Parser Heading
 field_member mods of_type name = if fits of.Field mods then (do
   found ← field_end mods of_type name
   pure (heading.Field found)) else fail
 
-abbrev pub typed_by : List Mod → Ty → Word → Bool → Parser Heading
+abbrev pub typed_by : List Mod → Ty → Lexeme → Bool → Parser Heading
 typed_by mods of_type name true = method_end mods (Some of_type) name
 typed_by mods of_type name false = field_member mods of_type name
 

@@ -22,12 +22,12 @@ MethodParts m = Mods of.Method m.mods ⨾ ResultSpells m.result ⨾ Spelled k.Na
 
 -- Ctor = Mods Name Params [Throws] Block, where the name is the class's
 abbrev pub CtorParts : List ℕ → Ctor → Phrase
-CtorParts class c = Mods of.Ctor c.mods ⨾ (c.name.name ≡ class) ⊢ Spelled k.Name c.name ⨾ Params c.params ⨾ Throws c.throws ⨾ BlockSpells 64 c.body
+CtorParts class c = Mods of.Ctor c.mods ⨾ (c.name.text ≡ class) ⊢ Spelled k.Name c.name ⨾ Params c.params ⨾ Throws c.throws ⨾ BlockSpells 64 c.body
 
 -- Main = Mods "void" "main" "(" ["final"] "String" "[" "]" Name ")" [Throws] Block
 abbrev pub MainParts : Main → Phrase
 MainParts m =
-    Mods of.Main m.mods ⨾ Mark k.Void ⨾ (m.name.name ≡ main_name) ⊢ Spelled k.Name m.name
+    Mods of.Main m.mods ⨾ Mark k.Void ⨾ (m.name.text ≡ main_name) ⊢ Spelled k.Name m.name
     ⨾ Mark k.LParen ⨾ Perhaps k.Final m.final_word ⨾ NameIs string_name ⨾ Mark k.LBracket ⨾ Mark k.RBracket ⨾ Spelled k.Name m.param ⨾ Mark k.RParen
     ⨾ Throws m.throws ⨾ BlockSpells 64 m.body
 

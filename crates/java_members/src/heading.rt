@@ -11,7 +11,7 @@ use java_heads::{
     read_perhaps, read_throws,
 };
 use java_phrases::{SyntaxError, Tokens, read_type};
-use java_tree::{Field, Kind, Mod, Param, Ty, Word};
+use java_tree::{Field, Kind, Lexeme, Mod, Param, Ty};
 use sqlite_items::Items;
 use std::alloc::Global;
 
@@ -19,26 +19,26 @@ use std::alloc::Global;
 pub(crate) struct MethodHeading {
     pub(crate) mods: Items<Mod>,
     pub(crate) result: Option<Ty>,
-    pub(crate) name: Word,
+    pub(crate) name: Lexeme,
     pub(crate) params: Items<Param>,
-    pub(crate) throws: Items<Items<Word>>,
+    pub(crate) throws: Items<Items<Lexeme>>,
 }
 
 #[derive(Drop)]
 pub(crate) struct CtorHeading {
     pub(crate) mods: Items<Mod>,
-    pub(crate) name: Word,
+    pub(crate) name: Lexeme,
     pub(crate) params: Items<Param>,
-    pub(crate) throws: Items<Items<Word>>,
+    pub(crate) throws: Items<Items<Lexeme>>,
 }
 
 #[derive(Drop)]
 pub(crate) struct MainHeading {
     pub(crate) mods: Items<Mod>,
-    pub(crate) name: Word,
+    pub(crate) name: Lexeme,
     pub(crate) final_word: Option<Span>,
-    pub(crate) param: Word,
-    pub(crate) throws: Items<Items<Word>>,
+    pub(crate) param: Lexeme,
+    pub(crate) throws: Items<Items<Lexeme>>,
 }
 
 /// A member up to its body. A field has none, and is whole but for its tokens.
@@ -87,7 +87,7 @@ fn method_end(
     tokens: &mut Tokens,
     mods: Items<Mod>,
     result_type: Option<Ty>,
-    name: Word,
+    name: Lexeme,
 ) -> Result<Heading, SyntaxError>
     ensures { Steps (spec.method_end mods result_type name) tokens.old result tokens.new }
 {
@@ -110,14 +110,14 @@ fn main_end(
     alloc: Global,
     tokens: &mut Tokens,
     mods: Items<Mod>,
-    name: Word,
+    name: Lexeme,
 ) -> Result<Heading, SyntaxError>
     ensures { Steps (spec.main_end mods name) tokens.old result tokens.new }
 {
     if !modifiers_fit(Declaration::Main, mods.as_slice()) {
         return Err(SyntaxError::NotSpelled);
     }
-    if name.name.as_slice() != b"main".as_slice() {
+    if name.text.as_slice() != b"main".as_slice() {
         return Err(SyntaxError::NotSpelled);
     }
     tokens.sign(Kind::LParen)?;
@@ -179,7 +179,7 @@ fn field_member(
     tokens: &mut Tokens,
     mods: Items<Mod>,
     ty: Ty,
-    name: Word,
+    name: Lexeme,
 ) -> Result<Heading, SyntaxError>
     ensures { Steps (spec.field_member mods ty name) tokens.old result tokens.new }
 {

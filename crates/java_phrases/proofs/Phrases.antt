@@ -5,7 +5,7 @@ use Rattle.desk_base.specs.declared.span.Span.{Span}
 use Rattle.java_tree.specs.contracts.kind.Kind.{the_type}
 use Rattle.java_tree.specs.declared.kind.Kind.{Kind}
 use Rattle.java_tree.specs.declared.token.Token.{Token}
-use Rattle.java_tree.specs.declared.token.Word.{Word}
+use Rattle.java_tree.specs.declared.token.Lexeme.{Lexeme}
 use Rattle.java_phrases.specs.Phrase.{Phrase, Nothing, Mark, Sign, Spelled, word_of}
 use Rattle.java_phrases.specs.Parser.{Outcome, Found, Lost, Parser, and_then, same_kind, next_kind, sees, sign, word}
 
@@ -35,12 +35,12 @@ unfolding sign
 sign-sound kind [] rest at e = cc
 sign-sound kind (t ∷ ts) rest at e = sign-sound_by kind t ts rest at (same_kind t.kind kind) refl e
 
-word-sound_by : (kind : Kind) (t : Token) (ts rest : List Token) (w : Word) (b : Bool) → same_kind t.kind kind ≡ b → cond b (Found (word_of t) ts) Lost ≡ Found w rest
+word-sound_by : (kind : Kind) (t : Token) (ts rest : List Token) (w : Lexeme) (b : Bool) → same_kind t.kind kind ≡ b → cond b (Found (word_of t) ts) Lost ≡ Found w rest
     → Spelled kind w (t ∷ ts) rest
 word-sound_by kind t ts rest w true same e = (t, cc, same_is t.kind kind same, cc)
 word-sound_by kind t ts rest w false same e = cc
 
-pub word-sound : (kind : Kind) (ts rest : List Token) (w : Word) → word kind ts ≡ Found w rest → Spelled kind w ts rest
+pub word-sound : (kind : Kind) (ts rest : List Token) (w : Lexeme) → word kind ts ≡ Found w rest → Spelled kind w ts rest
 unfolding word
 word-sound kind [] rest w e = cc
 word-sound kind (t ∷ ts) rest w e = word-sound_by kind t ts rest w (same_kind t.kind kind) refl e
@@ -49,7 +49,7 @@ pub sign-complete : (kind : Kind) (ts rest : List Token) (at : Span) → Sign ki
 unfolding sign
 sign-complete kind ts rest at (t, e, is, stands) = rw (e, is_same t.kind kind is, stands) refl
 
-pub word-complete : (kind : Kind) (ts rest : List Token) (w : Word) → Spelled kind w ts rest → word kind ts ≡ Found w rest
+pub word-complete : (kind : Kind) (ts rest : List Token) (w : Lexeme) → Spelled kind w ts rest → word kind ts ≡ Found w rest
 unfolding word
 word-complete kind ts rest w (t, e, is, stands) = rw (e, is_same t.kind kind is) (ap (λ x. Found x rest) stands)
 
@@ -71,7 +71,7 @@ pub next-mark : (kind : Kind) (ts rest : List Token) → Mark kind ts rest → n
 unfolding next_kind
 next-mark kind ts rest (t, e, is) = rw (e, is) refl
 
-pub next-word : (kind : Kind) (w : Word) (ts rest : List Token) → Spelled kind w ts rest → next_kind ts ≡ Some kind
+pub next-word : (kind : Kind) (w : Lexeme) (ts rest : List Token) → Spelled kind w ts rest → next_kind ts ≡ Some kind
 unfolding next_kind
 next-word kind w ts rest (t, e, is, stands) = rw (e, is) refl
 

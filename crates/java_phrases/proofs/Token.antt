@@ -22,7 +22,7 @@ unfolding sign
 sign_lost kind t ts rest e other = rw (e, other) refl
 
 pub word_found : (kind : Kind) (t : Token) (ts rest : List Token) (name : List ℕ) → name ≡ t.bytes → ts ≡ t ∷ rest → same_kind t.kind kind ≡ true
-    → word kind ts ≡ Found (record { name = name; span = t.span }) rest
+    → word kind ts ≡ Found (record { text = name; span = t.span }) rest
 unfolding word
 word_found kind t ts rest name n e same = rw (e, same, n) refl
 

@@ -8,7 +8,7 @@ use Rattle.desk_base.specs.declared.span.Span.{Span}
 use Rattle.java_tree.specs.contracts.kind.Kind.{the_type}
 use Rattle.java_tree.specs.declared.kind.Kind.{Kind}
 use Rattle.java_tree.specs.declared.token.Token.{Token}
-use Rattle.java_tree.specs.declared.token.Word.{Word}
+use Rattle.java_tree.specs.declared.token.Lexeme.{Lexeme}
 use Rattle.java_phrases.specs.Phrase.{word_of}
 
 -- what was found and the tokens after it, or that nothing was
@@ -79,7 +79,7 @@ unfoldable pub sign : Kind → Parser Span
 sign kind [] = Lost
 sign kind (t ∷ rest) = if same_kind t.kind kind then Found t.span rest else Lost
 
-unfoldable pub word : Kind → Parser Word
+unfoldable pub word : Kind → Parser Lexeme
 word kind [] = Lost
 word kind (t ∷ rest) = if same_kind t.kind kind then Found (word_of t) rest else Lost
 

@@ -5,7 +5,7 @@ use Rattle.desk_base.specs.declared.span.Span.{Span}
 use Rattle.java_tree.specs.declared.kind.Kind.{Kind}
 use Rattle.java_tree.specs.declared.kind.Kind.TheVariants as k
 use Rattle.java_tree.specs.declared.token.Token.{Token}
-use Rattle.java_tree.specs.declared.token.Word.{Word}
+use Rattle.java_tree.specs.declared.token.Lexeme.{Lexeme}
 
 abbrev pub Phrase : Type 1
 Phrase = List Token → List Token → Type 0
@@ -28,11 +28,11 @@ abbrev pub Sign : Kind → Span → Phrase
 Sign kind at ts rest = (t : Token) × (ts ≡ t ∷ rest) × (t.kind ≡ kind) × (t.span ≡ at)
 
 -- what a tree keeps of a name or a literal
-abbrev pub word_of : Token → Word
-word_of t = record { name = t.bytes; span = t.span }
+abbrev pub word_of : Token → Lexeme
+word_of t = record { text = t.bytes; span = t.span }
 
 -- a name or a literal
-abbrev pub Spelled : Kind → Word → Phrase
+abbrev pub Spelled : Kind → Lexeme → Phrase
 Spelled kind word ts rest = (t : Token) × (ts ≡ t ∷ rest) × (t.kind ≡ kind) × (word_of t ≡ word)
 
 -- one phrase for each item, in order

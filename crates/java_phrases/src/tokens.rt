@@ -7,7 +7,7 @@ ghost use Rattle.java_phrases.specs.Parser as spec;
 
 use crate::error::SyntaxError;
 use desk_base::{Name, OutOfMemory, Span};
-use java_tree::{Kind, Token, Word};
+use java_tree::{Kind, Lexeme, Token};
 use sqlite_items::Items;
 use std::alloc::Global;
 
@@ -111,7 +111,7 @@ impl Tokens {
 
     /// Reads a name or a literal.
     #[tactic(auto, unfolding(crate::specs::Parser::word))]
-    pub fn word(&mut self, alloc: Global, kind: Kind) -> Result<Word, SyntaxError>
+    pub fn word(&mut self, alloc: Global, kind: Kind) -> Result<Lexeme, SyntaxError>
         ensures { Steps (spec.word kind) self.old result self.new }
     {
         let Some(token) = self.take() else {
@@ -121,8 +121,8 @@ impl Tokens {
             return Err(SyntaxError::NotSpelled);
         }
         let name = Name::from_slice(alloc, token.bytes.as_slice())?;
-        let word = Word {
-            name,
+        let word = Lexeme {
+            text: name,
             span: token.span,
         };
         self.taken.push(token)?;

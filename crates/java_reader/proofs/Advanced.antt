@@ -70,7 +70,7 @@ closing-no : (file : FileTree) (c : ClassTree) (ts l : List Token) (part : Part)
 closing-no file c ts l (PackageLine p) b none (ok, s) = ok
 closing-no file c ts l (ImportLine i) b none (ok, s) = ok
 closing-no file c ts l (Opening h) b none (ok, s) = ok
-closing-no file c ts l (Inner m) b none s = differ (sees k.RBrace ts) b (member-front c.kind c.name.name m ts l s)
+closing-no file c ts l (Inner m) b none s = differ (sees k.RBrace ts) b (member-front c.kind c.name.text m ts l s)
 closing-no file c ts l Closing b none s = none tt l s
 
 pub closing-advances : (file : FileTree) (c : ClassTree) (ts rest : List Token) (r : Result Draft SyntaxError) → sees k.RBrace ts ≡ true → Adds (λ (u : Unit {0}). Closing) (within file c) ts r rest → Advances (within file c) ts r rest

@@ -4,7 +4,7 @@ use Rattle.desk_base.specs.declared.span.Span.{Span}
 use Rattle.java_tree.specs.declared.kind.Kind.{Kind}
 use Rattle.java_tree.specs.declared.kind.Kind.TheVariants as k
 use Rattle.java_tree.specs.declared.token.Token.{Token}
-use Rattle.java_tree.specs.declared.token.Word.{Word}
+use Rattle.java_tree.specs.declared.token.Lexeme.{Lexeme}
 use Rattle.java_tree.specs.declared.member.MemberTree.{MemberTree}
 use Rattle.java_tree.specs.declared.file.TypeKind.{TypeKind}
 use Rattle.java_tree.specs.declared.file.Package.{Package}
@@ -52,9 +52,9 @@ again-mark kind fixed ts rest us left (t, e, is) (u, f, also) later =
 again-sign : (kind : Kind) (at : Span) → IsFixed kind → OneWriting (Sign kind at)
 again-sign kind at fixed ts rest us left a b later = again-mark kind fixed ts rest us left (mark-sign kind at ts rest a) (mark-sign kind at us left b) later
 
-again-word : (kind : Kind) (w : Word) → OneWriting (Spelled kind w)
+again-word : (kind : Kind) (w : Lexeme) → OneWriting (Spelled kind w)
 again-word kind w ts rest us left (t, e, is, same) (u, f, also, alike) later =
-    alike-first t u ts rest us left e f (is ∙ sym also) (λ s r. ap (λ (v : Word). v.name) (same ∙ sym alike)) later
+    alike-first t u ts rest us left e f (is ∙ sym also) (λ s r. ap (λ (v : Lexeme). v.text) (same ∙ sym alike)) later
 
 again-nothing : OneWriting Nothing
 again-nothing ts rest us left e f later s r =
@@ -76,10 +76,10 @@ again-kept (t ∷ tokens) ts rest us left e f later = alike-first t t ts (tokens
 
 -- ---- lines
 
-again-dotted : (w : Word) → OneWriting (Mark k.Dot ⨾ Spelled k.Name w)
+again-dotted : (w : Lexeme) → OneWriting (Mark k.Dot ⨾ Spelled k.Name w)
 again-dotted w = again-then (Mark k.Dot) (Spelled k.Name w) (again-mark k.Dot (λ b s. s)) (again-word k.Name w)
 
-again-qualified : (name : List Word) → OneWriting (Qualified name)
+again-qualified : (name : List Lexeme) → OneWriting (Qualified name)
 again-qualified [] ts rest us left none b later = absurd none
 again-qualified (w ∷ words) ts rest us left a b later =
     again-then (Spelled k.Name w) (Each (λ y. Mark k.Dot ⨾ Spelled k.Name y) words) (again-word k.Name w) (again-each (λ y. Mark k.Dot ⨾ Spelled k.Name y) again-dotted words) ts rest us left a b later
@@ -117,7 +117,7 @@ again-type : (c : ClassTree) → OneWriting (TypeSpells c)
 again-type c ts rest us left (t1, (t0, (p, is), brace), (t2, members, end)) (u1, (u0, (q, also), other), (u2, others, last)) later =
     again-kept c.tokens ts t0 us u0 is also
     (again-mark k.LBrace (λ b s. s) t0 t1 u0 u1 brace other
-    (again-each (TypeMember c.kind c.name.name) (again-member c.kind c.name.name) c.members t1 t2 u1 u2 members others
+    (again-each (TypeMember c.kind c.name.text) (again-member c.kind c.name.text) c.members t1 t2 u1 u2 members others
     (again-mark k.RBrace (λ b s. s) t2 rest u2 left end last later)))
 
 pub again-file : (file : FileTree) (ts us : List Token) → Spells ts file → Spells us file → AreSpelled ts → AreSpelled us → Alike ts us

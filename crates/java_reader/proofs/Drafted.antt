@@ -20,7 +20,7 @@ use Rattle.java_reader.proofs.Unique.{end_stage, parts-snoc, end-snoc}
 -- a type whose body is open
 abbrev pub OpenSpells : Option ClassTree → Phrase
 OpenSpells None = Nothing
-OpenSpells (Some c) = HeaderSpells (header_of c) ⨾ Each (TypeMember c.kind c.name.name) c.members
+OpenSpells (Some c) = HeaderSpells (header_of c) ⨾ Each (TypeMember c.kind c.name.text) c.members
 
 abbrev pub FileDrafted : Option Package → List Import → List ClassTree → Option ClassTree → Phrase
 FileDrafted line imports types open_type = PackagePart line ⨾ Each ImportSpells imports ⨾ Each TypeSpells types ⨾ OpenSpells open_type
@@ -66,7 +66,7 @@ inner-step : (file : FileTree) (o : Option ClassTree) (m : MemberTree) (ts mid r
     → FileDrafted file.«package» file.imports file.types o ts mid → MemberAt (stage_by o file) m mid rest → Drafted (filled o file m) ts rest
 inner-step file None m ts mid rest drafted s = absurd (inner-none file.types file.imports file.«package» m mid rest s)
 inner-step file (Some c) m ts mid rest (t1, a, (t2, b, (t3, d, (t4, e, f)))) s =
-    (t1, a, (t2, b, (t3, d, (t4, e, each-snoc (TypeMember c.kind c.name.name) c.members m t4 mid rest f s))))
+    (t1, a, (t2, b, (t3, d, (t4, e, each-snoc (TypeMember c.kind c.name.text) c.members m t4 mid rest f s))))
 
 closing-step : (file : FileTree) (o : Option ClassTree) (ts mid rest : List Token)
     → FileDrafted file.«package» file.imports file.types o ts mid → IsBody (stage_by o file) → Mark k.RBrace mid rest → Drafted (closed o file) ts rest

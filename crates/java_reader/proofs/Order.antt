@@ -63,7 +63,7 @@ type-follows text from c ts rest end (t1, (t0, (p, is), (brace, left, opens)), (
     let (place, header, later) = follow-parts text from ts c.tokens t0 end is f in
     let P : List Token → Type 0 = λ l. Follow text place l end in
     let (begins, some, bytes, inner) = subst P left later in
-    let (last, ms, after) = members text brace.span.end c.kind c.name.name c.members t1 t2 end each inner in
+    let (last, ms, after) = members text brace.span.end c.kind c.name.text c.members t1 t2 end each inner in
     let Q : List Token → Type 0 = λ l. Follow text last l end in
     let (starts, more, letters, behind) = subst Q right after in
     let apart : place ≤ brace.span.end = omega arith in

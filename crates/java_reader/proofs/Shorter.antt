@@ -4,7 +4,7 @@ use Rattle.desk_base.specs.declared.span.Span.{Span}
 use Rattle.java_tree.specs.declared.kind.Kind.{Kind}
 use Rattle.java_tree.specs.declared.kind.Kind.TheVariants as k
 use Rattle.java_tree.specs.declared.token.Token.{Token}
-use Rattle.java_tree.specs.declared.token.Word.{Word}
+use Rattle.java_tree.specs.declared.token.Lexeme.{Lexeme}
 use Rattle.java_tree.specs.declared.stmt.Block.{Block}
 use Rattle.java_tree.specs.declared.member.Mod.{Mod}
 use Rattle.java_tree.specs.declared.member.Ty.{Ty}
@@ -67,7 +67,7 @@ spends-params params ts rest (few, s) =
     spends-then (Mark k.LParen) (Separated ParamSpells params ⨾ Mark k.RParen) (spends-mark k.LParen)
     (spends-then (Separated ParamSpells params) (Mark k.RParen) (spends-separated params) (spends-mark k.RParen)) ts rest s
 
-spends-throws : (names : List (List Word)) → Spends (Throws names)
+spends-throws : (names : List (List Lexeme)) → Spends (Throws names)
 spends-throws [] ts rest s = spent-nothing ts rest s
 spends-throws (name ∷ names) ts rest (mid, s, s1) =
     spends-then (Mark k.Throws) (λ a b. Spent a b) (spends-mark k.Throws) (λ a b taken. taken) ts rest (mid, s, spends-joined k.Comma Qualified spends-qualified (name ∷ names) mid rest s1)
@@ -122,10 +122,10 @@ by-mark kind ts rest s = let a : length ts ≡ suc (length rest) = mark-shorter 
 by-block : (b : Block) → Shortens (BlockSpells 64 b)
 by-block b ts rest s = ((sound 64).1 ts rest b ((complete 64).1 b ts rest s)).1
 
-by-body : (throws : List (List Word)) (b : Block) → Shortens (Throws throws ⨾ BlockSpells 64 b)
+by-body : (throws : List (List Lexeme)) (b : Block) → Shortens (Throws throws ⨾ BlockSpells 64 b)
 by-body throws b = by-last (Throws throws) (BlockSpells 64 b) (spends-throws throws) (by-block b)
 
-by-call : (params : List Param) (throws : List (List Word)) (b : Block) → Shortens (Params params ⨾ Throws throws ⨾ BlockSpells 64 b)
+by-call : (params : List Param) (throws : List (List Lexeme)) (b : Block) → Shortens (Params params ⨾ Throws throws ⨾ BlockSpells 64 b)
 by-call params throws b = by-last (Params params) (Throws throws ⨾ BlockSpells 64 b) (spends-params params) (by-body throws b)
 
 by-class : (class : List ℕ) (m : MemberTree) → Shortens (MemberParts class m)
@@ -170,7 +170,7 @@ by-member sort.Interface name (member.Method m) ts rest none = absurd none
 by-member sort.Interface name (member.Ctor c) ts rest none = absurd none
 by-member sort.Interface name (member.Main m) ts rest none = absurd none
 
-spends-name-end : (name : List Word) → Spends (Qualified name ⨾ Mark k.Semicolon)
+spends-name-end : (name : List Lexeme) → Spends (Qualified name ⨾ Mark k.Semicolon)
 spends-name-end name = spends-then (Qualified name) (Mark k.Semicolon) (spends-qualified name) (spends-mark k.Semicolon)
 
 spends-import-end : (i : Import) → Spends (Perhaps k.Static i.static_word ⨾ Qualified i.name ⨾ Star i.star ⨾ Mark k.Semicolon)

@@ -61,8 +61,8 @@ leads-members kind name (m ∷ ms) ts rest (mid, s, each) = leads-first (Body ki
 leads-type : (from : Stage) (c : ClassTree) (ts rest : List Token) → IsOutside from → TypeSpells c ts rest → Leads from ts Types rest
 leads-type from c ts rest out (t1, header, (t2, members, brace)) =
     leads-first from Types (Opening (header_of c)) ts t1 rest (out, header)
-    (leads-then (Body c.kind c.name.name) (Body c.kind c.name.name) Types t1 t2 rest (leads-members c.kind c.name.name c.members t1 t2 members)
-    (leads-first (Body c.kind c.name.name) Types Closing t2 rest rest (tt, brace) (leads-none Types rest rest refl)))
+    (leads-then (Body c.kind c.name.text) (Body c.kind c.name.text) Types t1 t2 rest (leads-members c.kind c.name.text c.members t1 t2 members)
+    (leads-first (Body c.kind c.name.text) Types Closing t2 rest rest (tt, brace) (leads-none Types rest rest refl)))
 
 -- the same, where the stage that it leads to is one of some
 pub record LeadsTo (Good : Stage → Type 0) (from : Stage) (ts rest : List Token) : Type 0 where
@@ -131,11 +131,11 @@ one-type : OneTree TypeSpells
 unfolding build
 one-type c d ts rest left (t1, header, (t2, members, brace)) (u1, other, (u2, others, end)) =
     let (same, here) = one_header (header_of c) (header_of d) ts t1 u1 header other in
-    let P : Header → Type 0 = λ h. Each (TypeMember h.kind h.name.name) d.members u1 u2 in
-    let Q : List Token → Type 0 = λ l. Each (TypeMember c.kind c.name.name) d.members l u2 in
-    let moved : Each (TypeMember c.kind c.name.name) d.members t1 u2 = subst Q (sym here) (subst P (sym same) others) in
-    let (alike, there) = each-one (TypeMember c.kind c.name.name) (one-inner c.kind c.name.name) c.members d.members t1 t2 u2 members moved
-    (no-member c.kind c.name.name t2 rest brace) (no-member c.kind c.name.name u2 left end) in
+    let P : Header → Type 0 = λ h. Each (TypeMember h.kind h.name.text) d.members u1 u2 in
+    let Q : List Token → Type 0 = λ l. Each (TypeMember c.kind c.name.text) d.members l u2 in
+    let moved : Each (TypeMember c.kind c.name.text) d.members t1 u2 = subst Q (sym here) (subst P (sym same) others) in
+    let (alike, there) = each-one (TypeMember c.kind c.name.text) (one-inner c.kind c.name.text) c.members d.members t1 t2 u2 members moved
+    (no-member c.kind c.name.text t2 rest brace) (no-member c.kind c.name.text u2 left end) in
     let R : List Token → Type 0 = λ l. Mark k.RBrace l left in
     let first : build (header_of c) c.members ≡ build (header_of d) d.members = ap (λ h. build h c.members) same ∙ ap (build (header_of d)) alike in
     (first, one-mark t2 rest left brace (subst R (sym there) end))

@@ -42,7 +42,7 @@ outside_stage (c ∷ types) imports line = Types
 outside_stage [] imports line = lines_stage imports line
 
 abbrev pub stage_by : Option ClassTree → FileTree → Stage
-stage_by (Some c) file = Body c.kind c.name.name
+stage_by (Some c) file = Body c.kind c.name.text
 stage_by None file = outside_stage file.types file.imports file.«package»
 
 abbrev pub stage_of : Draft → Stage

@@ -74,7 +74,7 @@ PartSpells stage Closing = IsBody stage ⊢ Mark k.RBrace
 abbrev pub stage_after : Stage → Part → Stage
 stage_after stage (PackageLine p) = Lines
 stage_after stage (ImportLine i) = Lines
-stage_after stage (Opening h) = Body h.kind h.name.name
+stage_after stage (Opening h) = Body h.kind h.name.text
 stage_after stage (Inner m) = stage
 stage_after stage Closing = Types
 

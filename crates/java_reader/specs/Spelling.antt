@@ -34,7 +34,7 @@ header_of c = record { mods = c.mods; kind = c.kind; name = c.name; implements =
 
 -- Class = header "{" {Field | Method | Ctor | Main} "}", Interface = header "{" {Sig} "}"
 abbrev pub TypeSpells : ClassTree → Phrase
-TypeSpells c = HeaderSpells (header_of c) ⨾ Each (TypeMember c.kind c.name.name) c.members ⨾ Mark k.RBrace
+TypeSpells c = HeaderSpells (header_of c) ⨾ Each (TypeMember c.kind c.name.text) c.members ⨾ Mark k.RBrace
 
 -- [Package]
 abbrev pub PackagePart : Option Package → Phrase

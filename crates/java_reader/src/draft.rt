@@ -129,7 +129,7 @@ fn with_member(
     ensures { Adds Inner (spec.within file class) (ahead tokens.old) result (ahead tokens.new) }
 {
     let mut class = class;
-    let member = member_of(alloc, tokens, class.kind, &class.name.name)?;
+    let member = member_of(alloc, tokens, class.kind, &class.name.text)?;
     class.members.push(member)?;
     Ok(Draft {
         file,

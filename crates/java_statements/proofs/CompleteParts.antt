@@ -8,7 +8,7 @@ use Rattle.desk_base.specs.declared.span.Span.{Span}
 use Rattle.java_tree.specs.declared.kind.Kind.{Kind}
 use Rattle.java_tree.specs.declared.kind.Kind.TheVariants as k
 use Rattle.java_tree.specs.declared.token.Token.{Token}
-use Rattle.java_tree.specs.declared.token.Word.{Word}
+use Rattle.java_tree.specs.declared.token.Lexeme.{Lexeme}
 use Rattle.java_tree.specs.declared.expr.Expr.{Expr, out-Expr}
 use Rattle.java_tree.specs.declared.expr.Expr.TheOpen.{Expr-F}
 use Rattle.java_tree.specs.declared.expr.Expr.TheViews.{roll-out-Expr}
@@ -334,13 +334,13 @@ unfolding for_head for_rest
 for_head-complete room f test last ts rest (t1, m1, (t2, s2, (t3, m3, (t4, s4, (t5, m5, (t6, s6, m7)))))) =
     rw (open-complete room f ts t1 t2 t3 m1 s2 m3, test-complete room test t3 t4 t5 s4 m5, close-complete room last t5 t6 rest s6 m7) refl
 
-class_monitor-complete : (name : Word) (at : Span) (ts t1 t2 rest : List Token) → Spelled k.Name name ts t1 → Mark k.Dot t1 t2 → Sign k.Class at t2 rest → class_monitor ts ≡ Found (monitor.Class name at) rest
+class_monitor-complete : (name : Lexeme) (at : Span) (ts t1 t2 rest : List Token) → Spelled k.Name name ts t1 → Mark k.Dot t1 t2 → Sign k.Class at t2 rest → class_monitor ts ≡ Found (monitor.Class name at) rest
 unfolding class_monitor
 class_monitor-complete name at ts t1 t2 rest s1 m2 s3 =
     let (dot, s2) = sign-mark k.Dot t1 t2 m2 in
     rw (word-complete k.Name ts t1 name s1, sign-complete k.Dot t1 t2 dot s2, sign-complete k.Class t2 rest at s3) refl
 
-class-next : (name : Word) (at : Span) (ts t1 t2 rest : List Token) → Spelled k.Name name ts t1 → Mark k.Dot t1 t2 → Sign k.Class at t2 rest → names_class ts ≡ true
+class-next : (name : Lexeme) (at : Span) (ts t1 t2 rest : List Token) → Spelled k.Name name ts t1 → Mark k.Dot t1 t2 → Sign k.Class at t2 rest → names_class ts ≡ true
 unfolding names_class next_kind kind_at
 class-next name at ts t1 t2 rest (t, e, is, stands) (u, f, sort) (v, g, class, here) = rw (e, f, g, is, sort, class) refl
 

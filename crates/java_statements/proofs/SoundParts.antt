@@ -7,7 +7,7 @@ use Rattle.desk_base.specs.declared.span.Span.{Span}
 use Rattle.java_tree.specs.declared.kind.Kind.{Kind}
 use Rattle.java_tree.specs.declared.kind.Kind.TheVariants as k
 use Rattle.java_tree.specs.declared.token.Token.{Token}
-use Rattle.java_tree.specs.declared.token.Word.{Word}
+use Rattle.java_tree.specs.declared.token.Lexeme.{Lexeme}
 use Rattle.java_tree.specs.declared.expr.Expr.{Expr, out-Expr}
 use Rattle.java_tree.specs.declared.expr.Expr.TheOpen.{Expr-F}
 use Rattle.java_tree.specs.declared.stmt.AssignOp.{AssignOp}
@@ -85,7 +85,7 @@ condition-sound room ts rest e is =
 abbrev pub IsPost : ℕ → List Token → Tall → List Token → Type 0
 IsPost room ts y rest = IsNode 8 ts y rest × (y.height ≤ room + 1)
 
-name-node : (room : ℕ) (y : Tall) (name : Word) (ts rest : List Token) → IsPost room ts y rest → out-Expr y.expr ≡ Expr-F.Name name → Spelled k.Name name ts rest
+name-node : (room : ℕ) (y : Tall) (name : Lexeme) (ts rest : List Token) → IsPost room ts y rest → out-Expr y.expr ≡ Expr-F.Name name → Spelled k.Name name ts rest
 unfolding Spells
 name-node room y name ts rest (node, low) is =
     let P : Expr-F Expr → Type 0 = λ f. Layered room (Spells room) 8 f ts rest in

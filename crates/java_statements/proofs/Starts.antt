@@ -6,7 +6,7 @@ use Rattle.desk_base.specs.declared.span.Span.{Span}
 use Rattle.java_tree.specs.declared.kind.Kind.{Kind}
 use Rattle.java_tree.specs.declared.kind.Kind.TheVariants as k
 use Rattle.java_tree.specs.declared.token.Token.{Token}
-use Rattle.java_tree.specs.declared.token.Word.{Word}
+use Rattle.java_tree.specs.declared.token.Lexeme.{Lexeme}
 use Rattle.java_tree.specs.declared.expr.Expr.{Expr, out-Expr}
 use Rattle.java_tree.specs.declared.expr.Expr.TheOpen.{Expr-F}
 use Rattle.java_tree.specs.declared.expr.BinaryOp.{BinaryOp}
@@ -173,7 +173,7 @@ by_kind p kind ts rest e value post off thread = record {
   no_class = λ _. rw e (class-plain kind (kind_at 1 ts) (kind_at 2 ts) off);
 }
 
-begins-name : (w : Word) (p : ℕ) (ts mid rest : List Token) → Spelled k.Name w ts mid → (sees k.Name rest ≡ false → sees k.Name mid ≡ false) → (dot_class (next_kind rest) (kind_at 1 rest) ≡ false → dot_class (next_kind mid) (kind_at 1 mid) ≡ false)
+begins-name : (w : Lexeme) (p : ℕ) (ts mid rest : List Token) → Spelled k.Name w ts mid → (sees k.Name rest ≡ false → sees k.Name mid ≡ false) → (dot_class (next_kind rest) (kind_at 1 rest) ≡ false → dot_class (next_kind mid) (kind_at 1 mid) ≡ false)
     → Opening p ts rest
 unfolding begins_local names_class
 begins-name w p ts mid rest (t, e, is, stands) local class =
@@ -190,10 +190,10 @@ begins-name w p ts mid rest (t, e, is, stands) local class =
       no_class = λ off. rw (next, second, third) (class off);
     }
 
-pub name-opening : (w : Word) (p : ℕ) (ts rest : List Token) → Spelled k.Name w ts rest → Opening p ts rest
+pub name-opening : (w : Lexeme) (p : ℕ) (ts rest : List Token) → Spelled k.Name w ts rest → Opening p ts rest
 name-opening w p ts rest s = begins-name w p ts rest rest s (λ off. off) (λ off. off)
 
-call-opening : (w : Word) (p : ℕ) (ts t1 t2 rest : List Token) → Spelled k.Name w ts t1 → Mark k.LParen t1 t2 → Opening p ts rest
+call-opening : (w : Lexeme) (p : ℕ) (ts t1 t2 rest : List Token) → Spelled k.Name w ts t1 → Mark k.LParen t1 t2 → Opening p ts rest
 call-opening w p ts t1 t2 rest s m =
     let next = next-mark k.LParen t1 t2 m in
     begins-name w p ts t1 rest s (λ _. sees-kind k.Name k.LParen t1 next) (λ _. rw next refl)
@@ -207,12 +207,12 @@ both-off true b e = e
 both-off false b e = refl
 
 -- behind `new` stands another name than this
-no_thread : (w : Word) (at : Span) (ts t1 t2 : List Token) → Sign k.New at ts t1 → Spelled k.Name w t1 t2 → w.name ≢ thread_name → text_at 1 k.Name thread_name ts ≡ false
+no_thread : (w : Lexeme) (at : Span) (ts t1 t2 : List Token) → Sign k.New at ts t1 → Spelled k.Name w t1 t2 → w.text ≢ thread_name → text_at 1 k.Name thread_name ts ≡ false
 unfolding text_at
 no_thread w at ts t1 t2 (t, e, is, stands) (u, f, sort, same) other =
-    let bytes : u.bytes ≡ w.name = ap (λ (v : Word). v.name) same in
+    let bytes : u.bytes ≡ w.text = ap (λ (v : Lexeme). v.text) same in
     let P : List ℕ → Type 0 = λ l. bytes_eq l thread_name ≡ false in
-    let off : bytes_eq u.bytes thread_name ≡ false = subst P (sym bytes) (other_by (bytes_eq w.name thread_name) w.name thread_name refl other) in
+    let off : bytes_eq u.bytes thread_name ≡ false = subst P (sym bytes) (other_by (bytes_eq w.text thread_name) w.text thread_name refl other) in
     rw (e, f) (both-off (same_kind u.kind k.Name) (bytes_eq u.bytes thread_name) off)
 
 -- from what stands before a selection, or before an operator
@@ -227,7 +227,7 @@ longer p q ts mid rest o level local class = record {
   no_class = λ _. o.no_class class;
 }
 
-selection-opening : (p : ℕ) (w : Word) (ts mid t1 t2 rest : List Token) → Opening 8 ts mid → Mark k.Dot mid t1 → Spelled k.Name w t1 t2 → Opening p ts rest
+selection-opening : (p : ℕ) (w : Lexeme) (ts mid t1 t2 rest : List Token) → Opening 8 ts mid → Mark k.Dot mid t1 → Spelled k.Name w t1 t2 → Opening p ts rest
 selection-opening p w ts mid t1 t2 rest o (t, e, is) s =
     let next = next-mark k.Dot mid t1 (t, e, is) in
     let second : kind_at 1 mid ≡ Some k.Name = ap (kind_at 1) e ∙ kind-second t t1 ∙ next-word k.Name w t1 t2 s in
@@ -337,7 +337,7 @@ action-begins (suc room) (action.Start at started closing) ts rest (t1, s, tail)
 
 -- ---- locals
 
-ty-begins : (y : Ty) (w : Word) (ts t1 t2 : List Token) → TySpells y ts t1 → Spelled k.Name w t1 t2 → (begins_local ts ≡ true) × (sees k.Final ts ≡ false) × (sees k.Semicolon ts ≡ false) × (sees k.RBrace ts ≡ false) × (sees k.Else ts ≡ false)
+ty-begins : (y : Ty) (w : Lexeme) (ts t1 t2 : List Token) → TySpells y ts t1 → Spelled k.Name w t1 t2 → (begins_local ts ≡ true) × (sees k.Final ts ≡ false) × (sees k.Semicolon ts ≡ false) × (sees k.RBrace ts ≡ false) × (sees k.Else ts ≡ false)
 unfolding begins_local
 ty-begins (type.Int at) w ts t1 t2 s s1 =
     let next = next-sign k.IntType at ts t1 s in
@@ -351,7 +351,7 @@ ty-begins (type.Named name) w ts t1 t2 (t, e, is, stands) s1 =
     (rw (next, second) refl, sees-kind k.Final k.Name ts next, sees-kind k.Semicolon k.Name ts next, sees-kind k.RBrace k.Name ts next, sees-kind k.Else k.Name ts next)
 
 -- what a local's declaration begins with, and whether that is `final`
-pub local-begins : (w : Option Span) (y : Ty) (name : Word) (ts t1 t2 t3 : List Token) → Optional (Sign k.Final) w ts t1 → TySpells y t1 t2 → Spelled k.Name name t2 t3
+pub local-begins : (w : Option Span) (y : Ty) (name : Lexeme) (ts t1 t2 t3 : List Token) → Optional (Sign k.Final) w ts t1 → TySpells y t1 t2 → Spelled k.Name name t2 t3
     → (begins_local ts ≡ true) × (sees k.Semicolon ts ≡ false) × (sees k.RBrace ts ≡ false) × (sees k.Else ts ≡ false)
 unfolding begins_local
 local-begins (Some at) y name ts t1 t2 t3 s s1 s2 =
@@ -362,5 +362,5 @@ local-begins None y name ts t1 t2 t3 s s1 s2 =
     let P : List Token → Type 0 = λ us. (begins_local us ≡ true) × (sees k.Semicolon us ≡ false) × (sees k.RBrace us ≡ false) × (sees k.Else us ≡ false) in
     subst P (sym s) (a, c, d, e)
 
-pub no_final : (y : Ty) (w : Word) (ts t1 t2 : List Token) → TySpells y ts t1 → Spelled k.Name w t1 t2 → sees k.Final ts ≡ false
+pub no_final : (y : Ty) (w : Lexeme) (ts t1 t2 : List Token) → TySpells y ts t1 → Spelled k.Name w t1 t2 → sees k.Final ts ≡ false
 no_final y w ts t1 t2 s s1 = (ty-begins y w ts t1 t2 s s1).1

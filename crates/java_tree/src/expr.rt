@@ -1,4 +1,4 @@
-use crate::token::Word;
+use crate::token::Lexeme;
 use desk_base::Span;
 use sqlite_items::{Boxed, Items};
 
@@ -22,20 +22,20 @@ pub enum BinaryOp {
 
 /// An expression. A `Span` is that of the sign or word that it stands beside in the written order;
 /// the last one of a call or `new` is that of its closing parenthesis.
-#[derive(Debug, Drop)]
+#[derive(Drop)]
 pub enum Expr {
-    Int(Word),
-    Str(Word),
+    Int(Lexeme),
+    Str(Lexeme),
     True(Span),
     False(Span),
     Null(Span),
     This(Span),
-    Name(Word),
-    Call(Word, Items<Expr>, Span),
-    New(Span, Word, Items<Expr>, Span),
+    Name(Lexeme),
+    Call(Lexeme, Items<Expr>, Span),
+    New(Span, Lexeme, Items<Expr>, Span),
     Paren(Span, Boxed<Expr>, Span),
-    Select(Boxed<Expr>, Word),
-    CallOn(Boxed<Expr>, Word, Items<Expr>, Span),
+    Select(Boxed<Expr>, Lexeme),
+    CallOn(Boxed<Expr>, Lexeme, Items<Expr>, Span),
     Not(Span, Boxed<Expr>),
     Neg(Span, Boxed<Expr>),
     Binary(Boxed<Expr>, BinaryOp, Span, Boxed<Expr>),

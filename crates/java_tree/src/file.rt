@@ -1,22 +1,23 @@
 use crate::member::{MemberTree, Mod};
-use crate::token::{Token, Word};
+use crate::token::{Lexeme, Token};
 use desk_base::Span;
 use sqlite_items::Items;
 
 /// The package line: the names of its qualified name.
-#[derive(Debug, Drop)]
+#[derive(Drop)]
 pub struct Package {
-    pub name: Items<Word>,
+    pub name: Items<Lexeme>,
 }
 
 /// An import line: its word `static`, if it is written, the names, and the `*`, if it is written.
-#[derive(Debug, Drop)]
+#[derive(Drop)]
 pub struct Import {
     pub static_word: Option<Span>,
-    pub name: Items<Word>,
+    pub name: Items<Lexeme>,
     pub star: Option<Span>,
 }
 
+/// What a type is declared as.
 #[derive(Clone, Copy, Debug, PartialEq, Eq)]
 pub enum TypeKind {
     Class,
@@ -24,18 +25,18 @@ pub enum TypeKind {
 }
 
 /// A class or an interface. Its tokens are those of its header, without the `{`.
-#[derive(Debug, Drop)]
+#[derive(Drop)]
 pub struct ClassTree {
     pub mods: Items<Mod>,
     pub kind: TypeKind,
-    pub name: Word,
-    pub implements: Items<Word>,
+    pub name: Lexeme,
+    pub implements: Items<Lexeme>,
     pub members: Items<MemberTree>,
     pub tokens: Items<Token>,
 }
 
 /// A whole file.
-#[derive(Debug, Drop)]
+#[derive(Drop)]
 pub struct FileTree {
     pub package: Option<Package>,
     pub imports: Items<Import>,

@@ -17,4 +17,4 @@ pub use member::{
     Ty,
 };
 pub use stmt::{Action, AssignOp, Block, BlockItem, ForFirst, Local, Monitor, StepOp, Stmt};
-pub use token::{Token, Word};
+pub use token::{Lexeme, Token};

@@ -1,14 +1,14 @@
 use crate::stmt::Block;
-use crate::token::{Token, Word};
+use crate::token::{Lexeme, Token};
 use desk_base::Span;
 use sqlite_items::{Boxed, Items};
 
 /// A type as it is written.
-#[derive(Debug, Drop)]
+#[derive(Drop)]
 pub enum Ty {
     Int(Span),
     Boolean(Span),
-    Named(Word),
+    Named(Lexeme),
 }
 
 /// A word among modifiers.
@@ -25,120 +25,122 @@ pub enum ModWord {
 
 /// An annotation: its `@`, the names of its qualified name, and its elements.
 #[cycle(annotations)]
-#[derive(Debug, Drop)]
+#[derive(Drop)]
 pub struct Annot {
     pub at: Span,
-    pub name: Items<Word>,
+    pub name: Items<Lexeme>,
     pub elements: Elements,
 }
 
 /// The elements of an annotation.
 #[cycle(annotations)]
-#[derive(Debug, Drop)]
+#[derive(Drop)]
 pub enum Elements {
     /// Nothing stands after the name.
     Bare,
     /// `()`
     Empty(Span, Span),
     /// One element in parentheses, with the word `value` before it where it is written.
-    One(Span, Option<Word>, Boxed<Elem>, Span),
+    One(Span, Option<Lexeme>, Boxed<Elem>, Span),
     /// Elements in braces in parentheses, with the word `value` before them where it is written.
-    Many(Span, Option<Word>, Items<Elem>, Span),
+    Many(Span, Option<Lexeme>, Items<Elem>, Span),
 }
 
 /// One element of an annotation: a string as written, or an annotation.
 #[cycle(annotations)]
-#[derive(Debug, Drop)]
+#[derive(Drop)]
 pub enum Elem {
-    Str(Word),
+    Str(Lexeme),
     Annot(Boxed<Annot>),
 }
 
 /// A modifier: an annotation or a word.
-#[derive(Debug, Drop)]
+#[derive(Drop)]
 pub enum Mod {
     Annot(Annot),
     Word(ModWord, Span),
 }
 
 /// A parameter.
-#[derive(Debug, Drop)]
+#[derive(Drop)]
 pub struct Param {
     pub mods: Items<Mod>,
     pub ty: Ty,
-    pub name: Word,
+    pub name: Lexeme,
 }
 
 /// What a field is initialized with.
-#[derive(Debug, Drop)]
+#[derive(Drop)]
 pub enum Init {
-    Int(Word),
+    Int(Lexeme),
     /// `-` and a literal.
-    MinusInt(Span, Word),
+    MinusInt(Span, Lexeme),
     True(Span),
     False(Span),
     Null(Span),
-    Str(Word),
+    Str(Lexeme),
     /// `new Object()`
     NewObject(Span),
 }
 
-#[derive(Debug, Drop)]
+/// A field with its tokens.
+#[derive(Drop)]
 pub struct Field {
     pub mods: Items<Mod>,
     pub ty: Ty,
-    pub name: Word,
+    pub name: Lexeme,
     pub init: Option<Init>,
     pub tokens: Items<Token>,
 }
 
 /// A method with its body. Its result is `None` for `void`.
-#[derive(Debug, Drop)]
+#[derive(Drop)]
 pub struct Method {
     pub mods: Items<Mod>,
     pub result: Option<Ty>,
-    pub name: Word,
+    pub name: Lexeme,
     pub params: Items<Param>,
-    pub throws: Items<Items<Word>>,
+    pub throws: Items<Items<Lexeme>>,
     pub body: Block,
     pub tokens: Items<Token>,
 }
 
 /// A method of an interface.
-#[derive(Debug, Drop)]
+#[derive(Drop)]
 pub struct Sig {
     pub mods: Items<Mod>,
     pub result: Option<Ty>,
-    pub name: Word,
+    pub name: Lexeme,
     pub params: Items<Param>,
-    pub throws: Items<Items<Word>>,
+    pub throws: Items<Items<Lexeme>>,
     pub tokens: Items<Token>,
 }
 
-#[derive(Debug, Drop)]
+/// A constructor with its body.
+#[derive(Drop)]
 pub struct Ctor {
     pub mods: Items<Mod>,
-    pub name: Word,
+    pub name: Lexeme,
     pub params: Items<Param>,
-    pub throws: Items<Items<Word>>,
+    pub throws: Items<Items<Lexeme>>,
     pub body: Block,
     pub tokens: Items<Token>,
 }
 
 /// `public static void main(String[] ..)`
-#[derive(Debug, Drop)]
+#[derive(Drop)]
 pub struct Main {
     pub mods: Items<Mod>,
-    pub name: Word,
+    pub name: Lexeme,
     pub final_word: Option<Span>,
-    pub param: Word,
-    pub throws: Items<Items<Word>>,
+    pub param: Lexeme,
+    pub throws: Items<Items<Lexeme>>,
     pub body: Block,
     pub tokens: Items<Token>,
 }
 
 /// A member of a class or an interface.
-#[derive(Debug, Drop)]
+#[derive(Drop)]
 pub enum MemberTree {
     Field(Field),
     Method(Method),

@@ -1,6 +1,6 @@
 use crate::expr::Expr;
 use crate::member::Ty;
-use crate::token::Word;
+use crate::token::Lexeme;
 use desk_base::Span;
 use sqlite_items::{Boxed, Items};
 
@@ -21,7 +21,7 @@ pub enum StepOp {
 
 /// What may stand before a semicolon, or in a part of a `for`. The target of an assignment or step
 /// is a name or a selection; a call's expression is a call, that of `New` a `new`.
-#[derive(Debug, Drop)]
+#[derive(Drop)]
 pub enum Action {
     Assign(Expr, AssignOp, Span, Expr),
     StepAfter(Expr, StepOp, Span),
@@ -33,16 +33,16 @@ pub enum Action {
 }
 
 /// A local's declaration: its word `final`, if it is written, its type, name and initializer.
-#[derive(Debug, Drop)]
+#[derive(Drop)]
 pub struct Local {
     pub final_word: Option<Span>,
     pub ty: Ty,
-    pub name: Word,
+    pub name: Lexeme,
     pub value: Expr,
 }
 
 /// The first part of a `for`.
-#[derive(Debug, Drop)]
+#[derive(Drop)]
 pub enum ForFirst {
     Nothing,
     Local(Local),
@@ -50,23 +50,24 @@ pub enum ForFirst {
 }
 
 /// What a `synchronized` statement locks: an expression's object, or a class.
-#[derive(Debug, Drop)]
+#[derive(Drop)]
 pub enum Monitor {
     Expr(Expr),
-    Class(Word, Span),
+    Class(Lexeme, Span),
 }
 
 /// The statements between two braces.
 #[cycle(statements)]
-#[derive(Debug, Drop)]
+#[derive(Drop)]
 pub struct Block {
     pub opening: Span,
     pub items: Items<BlockItem>,
     pub closing: Span,
 }
 
+/// A local with its semicolon, or a statement.
 #[cycle(statements)]
-#[derive(Debug, Drop)]
+#[derive(Drop)]
 pub enum BlockItem {
     Local(Local, Span),
     Stmt(Stmt),
@@ -74,7 +75,7 @@ pub enum BlockItem {
 
 /// A statement. A `Span` is that of the word or sign that it stands beside in the written order.
 #[cycle(statements)]
-#[derive(Debug, Drop)]
+#[derive(Drop)]
 pub enum Stmt {
     Block(Block),
     Empty(Span),

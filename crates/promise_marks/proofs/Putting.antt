@@ -4,7 +4,7 @@ use Rattle.std.specs.Prelude.{Some, Result, Ok, Err, OnOk}
 use Rattle.desk_base.specs.declared.memory.OutOfMemory.{OutOfMemory}
 use Rattle.promise_marks.specs.declared.mark.Mark.{Mark}
 use Rattle.java_tree.specs.declared.member.Param.{Param}
-use Rattle.java_tree.specs.declared.token.Word.{Word}
+use Rattle.java_tree.specs.declared.token.Lexeme.{Lexeme}
 use Rattle.std.proofs.lemmas.List.{take_more, length-take-le}
 use Rattle.promise_marks.specs.Given.{Given, by_params, by_mods, last_name}
 use Rattle.promise_marks.specs.Marks.{IsMark, AreMarks, PutsMarks}
@@ -67,7 +67,7 @@ params_more i ps p low is =
     ∙ ap (λ (q : Param). by_params 0 (take i ps) ++ by_mods (Some i) q.mods) (sym is)
 
 -- the last name
-pub last_at : (words : List Word) (k : ℕ) (d : Word) → k + 1 ≡ length words → last_name words ≡ (get_or words k d).name
+pub last_at : (words : List Lexeme) (k : ℕ) (d : Lexeme) → k + 1 ≡ length words → last_name words ≡ (get_or words k d).text
 last_at [] k d e = absurd (let z : k + 1 ≡ 0 = e in omega arith)
 last_at (w ∷ []) zero d e = refl
 last_at (w ∷ []) (suc k) d e = absurd (let z : suc k + 1 ≡ 1 = e in omega arith)

@@ -3,7 +3,7 @@
 use Rattle.std.specs.Prelude.{ℕ, ◌+◌, List, [], ◌∷◌, ◌++◌, Option, Some, None, if◌then◌else◌, codes}
 use Rattle.std.specs.List.{flat_map}
 use Rattle.std.specs.Str.{bytes_eq}
-use Rattle.java_tree.specs.declared.token.Word.{Word}
+use Rattle.java_tree.specs.declared.token.Lexeme.{Lexeme}
 use Rattle.java_tree.specs.declared.file.ClassTree.{ClassTree}
 use Rattle.java_tree.specs.declared.member.Annot.{Annot, out-Annot}
 use Rattle.java_tree.specs.declared.member.Elements.{Elements, out-Elements}
@@ -26,9 +26,9 @@ pub record Given : Type 0 where
   pub content : Option (List ℕ)
 
 -- an annotation goes by the last name of its qualified name
-abbrev pub last_name : List Word → List ℕ
+abbrev pub last_name : List Lexeme → List ℕ
 last_name [] = []
-last_name (w ∷ []) = w.name
+last_name (w ∷ []) = w.text
 last_name (w ∷ v ∷ ws) = last_name (v ∷ ws)
 
 abbrev pub name_of : Annot → List ℕ
@@ -45,7 +45,7 @@ abbrev pub elems_of : Annot → List Elem
 elems_of a = elems_in (out-Elements (out-Annot a).elements)
 
 abbrev pub string_in : Elem-F Elem Elements Annot → Option (List ℕ)
-string_in (Elem-F.Str word) = Some (string_value word.name)
+string_in (Elem-F.Str word) = Some (string_value word.text)
 string_in (Elem-F.Annot a) = None
 
 -- the value of its one string, which is empty where it has no element

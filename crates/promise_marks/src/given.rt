@@ -6,16 +6,16 @@ ghost use Rattle.promise_marks.specs.Marks.{IsTree};
 
 use desk_base::{Bytes, OutOfMemory};
 use java_lexer::string_value;
-use java_tree::{Annot, Elem, Elements, Word};
+use java_tree::{Annot, Elem, Elements, Lexeme};
 use promise_grammar::{PromiseError, PromiseKind, PromiseTree, Shared, read_promise};
 use std::alloc::Global;
 
-fn last_name(words: &[Word]) -> &[u8]
+fn last_name(words: &[Lexeme]) -> &[u8]
     ensures { result.now ≡ spec.last_name words.now }
 {
     match words {
         [] => &[],
-        [.., last] => last.name.as_slice(),
+        [.., last] => last.text.as_slice(),
     }
 }
 
@@ -47,7 +47,7 @@ fn string_in(alloc: Global, elem: &Elem) -> Result<Option<Bytes>, OutOfMemory>
     ensures { IfOk result (λ value. value ≡ spec.string_in (out-Elem elem.now)) }
 {
     match elem {
-        Elem::Str(word) => Ok(Some(string_value(alloc, word.name.as_slice())?)),
+        Elem::Str(word) => Ok(Some(string_value(alloc, word.text.as_slice())?)),
         Elem::Annot(_) => Ok(None),
     }
 }

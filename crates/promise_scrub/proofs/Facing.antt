@@ -48,9 +48,9 @@ pub face_is : (class : ClassTree) (header : List Mark) (marks : List (List Mark)
     (codes codes_now : List (Option FindingCode)) (region_map lock_map : BTreeMap (List ℕ) Bool) (name : List ℕ) (implements : List (List ℕ))
     (fields : List FieldFace) (members : List MemberFace) (found : Found) (assumptions : List Assumption)
     → regions_now ≡ regions → locks_now ≡ locks → codes_now ≡ codes → HasKinds region_map (region_kind regions_now) → HasKinds lock_map (lock_kind locks_now)
-    → name ≡ class.name.name → implements ≡ names_of class.implements → fields ≡ field_faces class → members ≡ member_faces class
+    → name ≡ class.name.text → implements ≡ names_of class.implements → fields ≡ field_faces class → members ≡ member_faces class
     → found ≡ found_with class header marks (kinds_in region_map) (kinds_in lock_map) codes_now
-    → assumptions ≡ assumptions_of (kinds_in lock_map) class.name.name header codes_now
+    → assumptions ≡ assumptions_of (kinds_in lock_map) class.name.text header codes_now
     → made class regions name implements fields members found assumptions
     ≡ face_with class header marks regions (region_kind regions) (lock_kind locks) codes
 face_is class header marks regions regions_now locks locks_now codes codes_now region_map lock_map name implements fields members found assumptions
@@ -63,9 +63,9 @@ face_is class header marks regions regions_now locks locks_now codes codes_now r
     found_is ∙ ap (λ (k : Kinds). found_with class header marks k (kinds_in lock_map) codes_now) rk
     ∙ ap (λ (k : Kinds). found_with class header marks (region_kind regions) k codes_now) lk
     ∙ ap (λ (z : List (Option FindingCode)). found_with class header marks (region_kind regions) (lock_kind locks) z) same_codes in
-    let a : assumptions ≡ assumptions_of (lock_kind locks) class.name.name header codes =
-    assumptions_is ∙ ap (λ (k : Kinds). assumptions_of k class.name.name header codes_now) lk
-    ∙ ap (λ (z : List (Option FindingCode)). assumptions_of (lock_kind locks) class.name.name header z) same_codes in
-    together class regions name class.name.name implements (names_of class.implements) fields (field_faces class) members (member_faces class) found
-    (found_with class header marks (region_kind regions) (lock_kind locks) codes) assumptions (assumptions_of (lock_kind locks) class.name.name header codes)
+    let a : assumptions ≡ assumptions_of (lock_kind locks) class.name.text header codes =
+    assumptions_is ∙ ap (λ (k : Kinds). assumptions_of k class.name.text header codes_now) lk
+    ∙ ap (λ (z : List (Option FindingCode)). assumptions_of (lock_kind locks) class.name.text header z) same_codes in
+    together class regions name class.name.text implements (names_of class.implements) fields (field_faces class) members (member_faces class) found
+    (found_with class header marks (region_kind regions) (lock_kind locks) codes) assumptions (assumptions_of (lock_kind locks) class.name.text header codes)
     name_is implements_is fields_is members_is f a

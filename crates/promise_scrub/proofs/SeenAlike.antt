@@ -72,9 +72,9 @@ faces_same xs ys [] [] h a = refl
 faces_same xs ys [] (q ∷ qs) h a = absurd a
 faces_same xs ys (p ∷ ps) [] h a = absurd a
 faces_same xs ys (p ∷ ps) (q ∷ qs) h a =
-    let n : p.name.name ≡ q.name.name = a.0.name in
+    let n : p.name.text ≡ q.name.text = a.0.name in
     let t : face_ty p.ty ≡ face_ty q.ty = a.0.ty in
-    let e : is_among p.name.name xs ≡ is_among q.name.name ys = h p.name.name ∙ ap (λ (z : List ℕ). is_among z ys) n in
+    let e : is_among p.name.text xs ≡ is_among q.name.text ys = h p.name.text ∙ ap (λ (z : List ℕ). is_among z ys) n in
     let one : param_face xs p ≡ param_face ys q = λ i. record { name = n i; ty = t i; effectively_final = not (e i) } in
     let more : map (param_face xs) ps ≡ map (param_face ys) qs = faces_same xs ys ps qs h a.1 in
     λ i. one i ∷ more i
@@ -107,7 +107,7 @@ sorts (ty.Boolean s) (ty.Named w) e = absurd (cc)
 sorts (ty.Named v) (ty.Int r) e = absurd (cc)
 sorts (ty.Named v) (ty.Boolean r) e = absurd (cc)
 sorts (ty.Named v) (ty.Named w) e =
-    let n : v.name ≡ w.name = cc in
+    let n : v.text ≡ w.text = cc in
     ap (λ (z : List ℕ). sort_of (ty.Named (record w { name = z }))) n
 
 objects : (t u : Ty) → face_ty t ≡ face_ty u → is_object t ≡ is_object u
@@ -120,7 +120,7 @@ objects (ty.Boolean s) (ty.Named w) e = absurd (cc)
 objects (ty.Named v) (ty.Int r) e = absurd (cc)
 objects (ty.Named v) (ty.Boolean r) e = absurd (cc)
 objects (ty.Named v) (ty.Named w) e =
-    let n : v.name ≡ w.name = cc in
+    let n : v.text ≡ w.text = cc in
     ap (λ (z : List ℕ). bytes_eq z (codes "Object")) n
 
 sorts_in : (p q : Option Param) → AlikeAt p q → param_sort p ≡ param_sort q
@@ -151,16 +151,16 @@ counted_same x y ps qs e a = let l : length ps ≡ length qs = lengths ps qs a i
 
 slot_same : Holds (λ m n. slot_of m ≡ slot_of n)
 slot_same (member.Field f) (member.Field g) a = a.name
-slot_same (member.Method m) (member.Method n) a = counted_same m.name.name n.name.name m.params n.params a.name a.params
-slot_same (member.Sig m) (member.Sig n) a = counted_same m.name.name n.name.name m.params n.params a.name a.params
+slot_same (member.Method m) (member.Method n) a = counted_same m.name.text n.name.text m.params n.params a.name a.params
+slot_same (member.Sig m) (member.Sig n) a = counted_same m.name.text n.name.text m.params n.params a.name a.params
 slot_same (member.Ctor m) (member.Ctor n) a = refl
 slot_same (member.Main m) (member.Main n) a = refl
 slot_same _ _ a = absurd a
 
 short_same : Holds (λ m n. short_key m ≡ short_key n)
 short_same (member.Field f) (member.Field g) a = a.name
-short_same (member.Method m) (member.Method n) a = counted_same m.name.name n.name.name m.params n.params a.name a.params
-short_same (member.Sig m) (member.Sig n) a = counted_same m.name.name n.name.name m.params n.params a.name a.params
+short_same (member.Method m) (member.Method n) a = counted_same m.name.text n.name.text m.params n.params a.name a.params
+short_same (member.Sig m) (member.Sig n) a = counted_same m.name.text n.name.text m.params n.params a.name a.params
 short_same (member.Ctor m) (member.Ctor n) a = counted_same (codes "new") (codes "new") m.params n.params refl a.params
 short_same (member.Main m) (member.Main n) a = refl
 short_same _ _ a = absurd a
@@ -173,7 +173,7 @@ key_same class slots m n a =
 
 field_same : Holds (λ m n. field_of m ≡ field_of n)
 field_same (member.Field f) (member.Field g) a =
-    let n : f.name.name ≡ g.name.name = a.name in
+    let n : f.name.text ≡ g.name.text = a.name in
     let t : face_ty f.ty ≡ face_ty g.ty = a.ty in
     let s : is_static f.mods ≡ is_static g.mods = a.static_word in
     let fin : is_final f.mods ≡ is_final g.mods = a.final_word in
@@ -203,7 +203,7 @@ face_same key (member.Ctor m) (member.Ctor n) a =
     let ps = faces_same (block_names m.body) (block_names n.body) m.params n.params a.targets a.params in
     λ i. Some (record { key = key; params = ps i; result = None; is_static = false })
 face_same key (member.Main m) (member.Main n) a =
-    let p : m.param.name ≡ n.param.name = a.param in
+    let p : m.param.text ≡ n.param.text = a.param in
     ap (λ (z : List ℕ). face_of key (member.Main (record m { param = record m.param { name = z } }))) p
 face_same key _ _ a = absurd a
 
@@ -268,7 +268,7 @@ selected_same (scope.Methods p) (member.Main m) (member.Main n) a = refl
 selected_same (scope.PlainMethods p) (member.Field f) (member.Field g) a = refl
 selected_same (scope.PlainMethods p) (member.Method m) (member.Method n) a =
     let nil : is_nil m.params ≡ is_nil n.params = nils m.params n.params a.params in
-    let name : m.name.name ≡ n.name.name = a.name in
+    let name : m.name.text ≡ n.name.text = a.name in
     λ i. nil i && matches p (name i)
 selected_same (scope.PlainMethods p) (member.Sig m) (member.Sig n) a = refl
 selected_same (scope.PlainMethods p) (member.Ctor m) (member.Ctor n) a = refl
@@ -370,27 +370,27 @@ found_same : (a b : ClassTree) (header : List Mark) (marks : List (List Mark)) (
     → found_with a header marks regions locks codes ≡ found_with b header marks regions locks codes
 found_same a b header marks regions locks codes alike =
     let kind : a.kind ≡ b.kind = alike.kind in
-    let name : a.name.name ≡ b.name.name = alike.name in
+    let name : a.name.text ≡ b.name.text = alike.name in
     let keys : member_keys a ≡ member_keys b =
-    all_keys a.name.name [] a.members b.members alike.members ∙ ap (λ (n : List ℕ). keys_after n [] b.members) name in
-    let others : found_from a.name.name regions locks (scoped_of (header_site a.kind) header) (member_keys a) marks b.members
-    (found_more (text_of a.name.name) (header_from a.name.name locks (header_site a.kind) header codes no_promises) found_nothing)
+    all_keys a.name.text [] a.members b.members alike.members ∙ ap (λ (n : List ℕ). keys_after n [] b.members) name in
+    let others : found_from a.name.text regions locks (scoped_of (header_site a.kind) header) (member_keys a) marks b.members
+    (found_more (text_of a.name.text) (header_from a.name.text locks (header_site a.kind) header codes no_promises) found_nothing)
     ≡ found_with b header marks regions locks codes =
     λ i. found_from (name i) regions locks (scoped_of (header_site (kind i)) header) (keys i) marks b.members
     (found_more (text_of (name i)) (header_from (name i) locks (header_site (kind i)) header codes no_promises) found_nothing) in
-    all_found a.name.name regions locks (scoped_of (header_site a.kind) header) (member_keys a) marks a.members b.members _ alike.members ∙ others
+    all_found a.name.text regions locks (scoped_of (header_site a.kind) header) (member_keys a) marks a.members b.members _ alike.members ∙ others
 
 face_alike : (a b : ClassTree) (header : List Mark) (marks : List (List Mark)) (regions : List RegionDecl) (rk lk : Kinds) (codes : List (Option FindingCode)) → Alike a b
     → face_with a header marks regions rk lk codes ≡ face_with b header marks regions rk lk codes
 face_alike a b header marks regions rk lk codes alike =
     let kind : a.kind ≡ b.kind = alike.kind in
-    let name : a.name.name ≡ b.name.name = alike.name in
+    let name : a.name.text ≡ b.name.text = alike.name in
     let implements : names_of a.implements ≡ names_of b.implements = alike.implements in
     let fields : field_faces a ≡ field_faces b = all_fields a.members b.members alike.members in
     let members : member_faces a ≡ member_faces b =
-    all_faces a.name.name [] a.members b.members alike.members ∙ ap (λ (n : List ℕ). faces_after n [] b.members) name in
+    all_faces a.name.text [] a.members b.members alike.members ∙ ap (λ (n : List ℕ). faces_after n [] b.members) name in
     let found : found_with a header marks rk lk codes ≡ found_with b header marks rk lk codes = found_same a b header marks rk lk codes alike in
-    let assumptions : assumptions_of lk a.name.name header codes ≡ assumptions_of lk b.name.name header codes =
+    let assumptions : assumptions_of lk a.name.text header codes ≡ assumptions_of lk b.name.text header codes =
     ap (λ (n : List ℕ). assumptions_of lk n header codes) name in
     λ i. record {
       kind = kind i;

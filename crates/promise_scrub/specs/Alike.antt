@@ -28,7 +28,7 @@ abbrev pub SameTargets : Block → Block → Type 0
 SameTargets a b = (name : List ℕ) → is_among name (block_names a) ≡ is_among name (block_names b)
 
 pub record AlikeParam (p q : Param) : Type 0 where
-  pub name : p.name.name ≡ q.name.name
+  pub name : p.name.text ≡ q.name.text
   pub ty : face_ty p.ty ≡ face_ty q.ty
   pub promises : SamePromises p.mods q.mods
 
@@ -38,7 +38,7 @@ AlikeParams (p ∷ ps) (q ∷ qs) = AlikeParam p q × AlikeParams ps qs
 AlikeParams _ _ = ⊥
 
 pub record AlikeField (f g : Field) : Type 0 where
-  pub name : f.name.name ≡ g.name.name
+  pub name : f.name.text ≡ g.name.text
   pub ty : face_ty f.ty ≡ face_ty g.ty
   pub static_word : is_static f.mods ≡ is_static g.mods
   pub final_word : is_final f.mods ≡ is_final g.mods
@@ -47,7 +47,7 @@ pub record AlikeField (f g : Field) : Type 0 where
   pub promises : SamePromises f.mods g.mods
 
 pub record AlikeMethod (m n : Method) : Type 0 where
-  pub name : m.name.name ≡ n.name.name
+  pub name : m.name.text ≡ n.name.text
   pub result : option_map face_ty m.result ≡ option_map face_ty n.result
   pub static_word : is_static m.mods ≡ is_static n.mods
   pub params : AlikeParams m.params n.params
@@ -55,7 +55,7 @@ pub record AlikeMethod (m n : Method) : Type 0 where
   pub promises : SamePromises m.mods n.mods
 
 pub record AlikeSig (s t : Sig) : Type 0 where
-  pub name : s.name.name ≡ t.name.name
+  pub name : s.name.text ≡ t.name.text
   pub result : option_map face_ty s.result ≡ option_map face_ty t.result
   pub static_word : is_static s.mods ≡ is_static t.mods
   pub params : AlikeParams s.params t.params
@@ -67,7 +67,7 @@ pub record AlikeCtor (c d : Ctor) : Type 0 where
   pub promises : SamePromises c.mods d.mods
 
 pub record AlikeMain (m n : Main) : Type 0 where
-  pub param : m.param.name ≡ n.param.name
+  pub param : m.param.text ≡ n.param.text
   pub promises : SamePromises m.mods n.mods
 
 abbrev pub AlikeMember : MemberTree → MemberTree → Type 0
@@ -85,7 +85,7 @@ AllAlike _ _ = ⊥
 
 pub record Alike (a b : ClassTree) : Type 0 where
   pub kind : a.kind ≡ b.kind
-  pub name : a.name.name ≡ b.name.name
+  pub name : a.name.text ≡ b.name.text
   pub implements : names_of a.implements ≡ names_of b.implements
   pub promises : SamePromises a.mods b.mods
   pub members : AllAlike a.members b.members

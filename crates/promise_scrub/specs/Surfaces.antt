@@ -3,7 +3,7 @@ use Rattle.std.specs.Prelude.{◌≡◌, ℕ, Bool, true, false, List, [], ◌�
 use Rattle.std.specs.List.{flat_map}
 use Rattle.java_tree.specs.declared.file.ClassTree.{ClassTree}
 use Rattle.java_tree.specs.declared.member.MemberTree.{MemberTree}
-use Rattle.java_tree.specs.declared.token.Word.{Word}
+use Rattle.java_tree.specs.declared.token.Lexeme.{Lexeme}
 use Rattle.promise_grammar.specs.declared.member.MemberContent.{MemberContent}
 use Rattle.promise_grammar.specs.declared.member.MemberName.{MemberName}
 use Rattle.promise_grammar.specs.declared.member.MemberName.TheVariants as member_of
@@ -132,26 +132,26 @@ member_units class regions locks scoped (k ∷ ks) (a ∷ rest) (m ∷ ms) =
 
 abbrev pub header_unit : ClassTree → List Mark → Kinds → Kinds → List (Option FindingCode) → UnitAnnotations
 header_unit class header regions locks codes = record {
-  key = text_of class.name.name;
-  annotations = header_annotations (class_facts class.name.name regions locks) (header_site class.kind) header codes;
+  key = text_of class.name.text;
+  annotations = header_annotations (class_facts class.name.text regions locks) (header_site class.kind) header codes;
 }
 
 -- the units of a class: the header, then the members in written order
 abbrev pub units_of : ClassTree → List Mark → List (List Mark) → Kinds → Kinds → List (Option FindingCode) → List UnitAnnotations
 units_of class header members regions locks codes =
     header_unit class header regions locks codes
-    ∷ member_units class.name.name regions locks (scoped_of (header_site class.kind) header) (member_keys class) members class.members
+    ∷ member_units class.name.text regions locks (scoped_of (header_site class.kind) header) (member_keys class) members class.members
 
 -- ---- the surface
 
-abbrev pub names_of : List Word → List (List ℕ)
-names_of words = map (λ w. w.name) words
+abbrev pub names_of : List Lexeme → List (List ℕ)
+names_of words = map (λ w. w.text) words
 
 -- the surface of a class with these regions, units and assumptions
 abbrev pub face_by : ClassTree → List RegionDecl → List UnitAnnotations → List Assumption → Face
 face_by class regions units assumptions = record {
   kind = class.kind;
-  name = class.name.name;
+  name = class.name.text;
   implements = names_of class.implements;
   fields = field_faces class;
   members = member_faces class;
@@ -166,7 +166,7 @@ face_by class regions units assumptions = record {
 abbrev pub face_with : ClassTree → List Mark → List (List Mark) → List RegionDecl → Kinds → Kinds → List (Option FindingCode) → Face
 face_with class header members regions region_kinds lock_kinds codes =
     face_by class regions (units_of class header members region_kinds lock_kinds codes)
-    (assumptions_of (class_facts class.name.name region_kinds lock_kinds) header codes)
+    (assumptions_of (class_facts class.name.text region_kinds lock_kinds) header codes)
 
 -- the locks that stand, of a class whose header has these annotations and codes
 abbrev pub class_locks : ClassTree → List Mark → List (Option FindingCode) → Kinds

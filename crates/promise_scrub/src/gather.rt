@@ -13,7 +13,7 @@ use crate::spread::promises_of;
 use crate::unit::Unit;
 use class_faces::{is_static, named_params};
 use desk_base::{Items, Name, OutOfMemory, Text};
-use java_tree::{MemberTree, Word};
+use java_tree::{Lexeme, MemberTree};
 use promise_marks::{Mark, member_marks};
 use scrub_rules::{FindingCode, Site, claims_of};
 use std::alloc::Global;
@@ -154,12 +154,12 @@ pub(crate) fn put_members(
 }
 
 /// The names of words.
-pub(crate) fn names_of(alloc: Global, words: &[Word]) -> Result<Items<Name>, OutOfMemory>
+pub(crate) fn names_of(alloc: Global, words: &[Lexeme]) -> Result<Items<Name>, OutOfMemory>
     ensures { IfOk result (λ names. names ≡ spec.names_of words.now) }
 {
     let mut names = Items::new(alloc);
     for word in words {
-        names.push(word.name.clone()?)?;
+        names.push(word.text.clone()?)?;
     }
     Ok(names)
 }

@@ -78,7 +78,7 @@ fn found_in(
 ) -> Result<Found, OutOfMemory>
     ensures { IfOk result (λ found. found ≡ spec.found_with class.now header.now members.now (kinds_in regions.now) (kinds_in locks.now) codes.now) }
 {
-    let name = &class.name.name;
+    let name = &class.name.text;
     let site = header_site(class.kind);
     let key = text_of(alloc, name.as_slice())?;
     let mut own = Unit::new(alloc);
@@ -117,10 +117,10 @@ fn face_of(
     let locks = lock_kinds(alloc, scrubbed.locks.as_slice())?;
     let codes = scrubbed.codes.as_slice();
     let found = found_in(alloc, class, header, members, &regions, &locks, codes)?;
-    let assumptions = assumptions_of(alloc, &locks, &class.name.name, header, codes)?;
+    let assumptions = assumptions_of(alloc, &locks, &class.name.text, header, codes)?;
     Ok(Surface {
         kind: class.kind,
-        name: class.name.name.clone()?,
+        name: class.name.text.clone()?,
         implements: names_of(alloc, class.implements.as_slice())?,
         fields,
         members: member_faces(alloc, class)?,

@@ -39,7 +39,7 @@ lock_detail kinds class (lock.Of owner name) = colon owner name
 -- the name of a parameter, by its number
 abbrev pub name_in : Option Param → List ℕ
 name_in None = []
-name_in (Some p) = p.name.name
+name_in (Some p) = p.name.text
 
 abbrev pub param_name : MemberTree → Option ℕ → List ℕ
 param_name m None = []

@@ -31,7 +31,7 @@ sort_of_name name =
 abbrev pub sort_of : Ty → TypeSort
 sort_of (ty.Int span) = sort.Primitive
 sort_of (ty.Boolean span) = sort.Primitive
-sort_of (ty.Named word) = sort_of_name word.name
+sort_of (ty.Named word) = sort_of_name word.text
 
 abbrev pub made : SiteKind → TypeSort → Bool → Site
 made k s t = record { kind = k; sort = s; has_this = t }

@@ -28,8 +28,8 @@ is_nil _ = false
 
 -- a main is no method, and an interface has no scoped promises
 abbrev pub selects : ScopeContent → MemberTree → Bool
-selects (scope.Fields p) (member.Field f) = matches p f.name.name
-selects (scope.Methods p) (member.Method m) = matches p m.name.name
-selects (scope.PlainMethods p) (member.Method m) = is_nil m.params && matches p m.name.name
+selects (scope.Fields p) (member.Field f) = matches p f.name.text
+selects (scope.Methods p) (member.Method m) = matches p m.name.text
+selects (scope.PlainMethods p) (member.Method m) = is_nil m.params && matches p m.name.text
 selects scope.Constructors (member.Ctor c) = true
 selects _ _ = false

@@ -62,7 +62,7 @@ fn name_in(param: Option<&Param>) -> &[u8]
     ensures { result.now ≡ spec.name_in (option_copied param.entry) }
 {
     match param {
-        Some(param) => param.name.name.as_slice(),
+        Some(param) => param.name.text.as_slice(),
         None => &[],
     }
 }

@@ -62,7 +62,7 @@ fn sort_of(ty: &Ty) -> TypeSort
     match ty {
         Ty::Int(_) => TypeSort::Primitive,
         Ty::Boolean(_) => TypeSort::Primitive,
-        Ty::Named(word) => sort_of_name(&word.name),
+        Ty::Named(word) => sort_of_name(&word.text),
     }
 }
 

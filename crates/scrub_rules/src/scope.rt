@@ -35,13 +35,13 @@ pub fn selects(scope: &ScopeContent, member: &MemberTree) -> bool
 {
     match (scope, member) {
         (ScopeContent::Fields(pattern), MemberTree::Field(field)) => {
-            matches(pattern, field.name.name.as_slice())
+            matches(pattern, field.name.text.as_slice())
         }
         (ScopeContent::Methods(pattern), MemberTree::Method(method)) => {
-            matches(pattern, method.name.name.as_slice())
+            matches(pattern, method.name.text.as_slice())
         }
         (ScopeContent::PlainMethods(pattern), MemberTree::Method(method)) => {
-            method.params.is_empty() && matches(pattern, method.name.name.as_slice())
+            method.params.is_empty() && matches(pattern, method.name.text.as_slice())
         }
         (ScopeContent::Constructors, MemberTree::Ctor(_)) => true,
         _ => false,

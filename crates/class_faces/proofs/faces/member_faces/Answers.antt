@@ -13,7 +13,7 @@ loop-member-preserved c =
     let class = ap (λ class. key_with class m (times slots (slot_of m) + 1)) c.as_slice.ensures in
     record {
       so_far = rw (c.in_ok-put_face.ensures, c.in_ok-face.ensures)
-          (faces_step c.args.class.now.name.name ms i m c.loop-member.faces _ c.in_ok-key.key c.loop-member-test.true c.member-item.is
+          (faces_step c.args.class.now.name.text ms i m c.loop-member.faces _ c.in_ok-key.key c.loop-member-test.true c.member-item.is
           c.loop-member.invariant.so_far (keyed.key ∙ class));
       counts = counts_step ms i m c.next_key.new.counts c.loop-member-test.true c.member-item.is keyed.counts;
     }

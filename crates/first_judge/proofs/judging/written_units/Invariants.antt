@@ -1,7 +1,7 @@
 use Rattle.std.proofs.Common.{◌≡◌, ◌++◌, drop}
 use Rattle.std.specs.List.{AllByRecursion, flat_map}
 use Rattle.std.specs.Str.{IsAscii}
-use Rattle.java_tree.specs.Names.{names_of_member}
+use Rattle.first_form.specs.WrittenNames.{names_of_member}
 use Rattle.first_judge.specs.Findings.{units_with}
 use Rattle.first_judge.proofs.judging.written_units.Given as goal
 

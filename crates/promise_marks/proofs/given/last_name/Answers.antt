@@ -6,4 +6,4 @@ pub returns-in-len1-up : goal.returns-in-len1-up
 returns-in-len1-up c =
     let words = c.args.words.now in
     let long : (length words - 1) + 1 ≡ length words = omega (arith, c.in-len1-up.len_at_least) in
-    c.as_slice.ensures ∙ ap (λ w. w.name) c.last-item.is ∙ sym (last_at words (length words - 1) c.last-item.result long)
+    c.as_slice.ensures ∙ ap (λ w. w.text) c.last-item.is ∙ sym (last_at words (length words - 1) c.last-item.result long)

@@ -16,7 +16,7 @@ use Rattle.java_tree.specs.declared.member.Method.{Method}
 use Rattle.java_tree.specs.declared.file.ClassTree.{ClassTree}
 
 abbrev pub names_of_expr : Expr-F Expr → List (List ℕ)
-names_of_expr (Expr-F.Name word) = word.name ∷ []
+names_of_expr (Expr-F.Name word) = word.text ∷ []
 names_of_expr _ = []
 
 abbrev pub names_of_action : Action → List (List ℕ)
@@ -34,16 +34,16 @@ names_of_item _ = []
 
 -- of a method: its own name, and those that the assignments and returns of its body read and write
 abbrev pub names_of_method : Method → List (List ℕ)
-names_of_method m = m.name.name ∷ flat_map (λ item. names_of_item (out-BlockItem item)) (out-Block m.body).items
+names_of_method m = m.name.text ∷ flat_map (λ item. names_of_item (out-BlockItem item)) (out-Block m.body).items
 
 abbrev pub names_of_member : MemberTree → List (List ℕ)
-names_of_member (member.Field f) = f.name.name ∷ []
+names_of_member (member.Field f) = f.name.text ∷ []
 names_of_member (member.Method m) = names_of_method m
 names_of_member _ = []
 
 -- of a class: its own name and those of its members
 abbrev pub names_of_class : ClassTree → List (List ℕ)
-names_of_class c = c.name.name ∷ flat_map names_of_member c.members
+names_of_class c = c.name.text ∷ flat_map names_of_member c.members
 
 -- each name is of ASCII
 abbrev pub AsciiNames : ClassTree → Type 0
