@@ -1,8 +1,6 @@
-pub mod Holding
-pub mod Stepping
-pub mod Gathering
-pub mod Coding
 pub mod Facing
+pub mod Gathering
+pub mod Keeping
 pub mod Looking
-pub mod Single
 pub mod SeenAlike
+pub mod Single

@@ -1,5 +1,5 @@
 -- The promises of a unit as its annotations are judged one by one: what the code keeps of those so far.
-use Rattle.std.specs.Prelude.{ℕ, ◌+◌, Bool, true, false, ◌&&◌, ◌||◌, not, List, [], ◌∷◌, ◌++◌, Option, Some, None, filter, fold, if◌then◌else◌}
+use Rattle.std.specs.Prelude.{ℕ, ◌+◌, Bool, true, false, ◌&&◌, ◌||◌, not, List, [], ◌∷◌, ◌++◌, Option, Some, None, filter, fold, map, if◌then◌else◌}
 use Rattle.desk_base.specs.declared.key.PromiseName.{PromiseName}
 use Rattle.promise_grammar.specs.declared.tree.PromiseTree.{PromiseTree, out-PromiseTree}
 use Rattle.result_records.specs.declared.code.FindingCode.{FindingCode}
@@ -7,7 +7,7 @@ use Rattle.result_records.specs.declared.code.FindingCode.TheVariants as scrub
 use Rattle.scrub_rules.specs.declared.offer.Offer.{Offer}
 use Rattle.scrub_rules.specs.Code.{least}
 use Rattle.promise_scrub.specs.Texts.{is_among}
-use Rattle.promise_scrub.specs.Verdicts.{Annotation, Content, Bad, Gives, aside_of, is_in_region, is_vouch, number_of, standing_of}
+use Rattle.promise_scrub.specs.Verdicts.{Annotation, Content, Bad, Gives, Judged, aside_of, asides, counts, given, is_in_region, is_vouch, number_of, own, standing_of, standings, vouched}
 use Rattle.promise_scrub.specs.declared.surface.Standing.{Standing}
 use Rattle.promise_scrub.specs.declared.unit.Unit.{Unit as Target}
 
@@ -17,6 +17,11 @@ key_tag o = number_of o.name ∷ o.detail
 
 abbrev pub form_tag : Offer → List ℕ
 form_tag o = number_of o.form ∷ (if is_in_region o.form then [] else key_tag o)
+
+-- how many of these annotations count
+abbrev pub number_in : List Judged → ℕ
+number_in [] = 0
+number_in (j ∷ more) = counts j.verdict + number_in more
 
 abbrev pub no_promises : Target
 no_promises = record { number = 0; own = []; tags = []; stood = []; standing = []; aside = []; vouched = false }
@@ -37,6 +42,17 @@ standing_more key tree u o = if is_among (key_tag o) u.stood then u.standing els
 
 abbrev pub own_more : Bool → Target → Offer → List (List ℕ)
 own_more spread u o = if spread then u.own else u.own ++ key_tag o ∷ []
+
+abbrev pub put_tags : Target → Offer → Target
+put_tags u o = record {
+  number = u.number;
+  own = u.own;
+  tags = u.tags ++ form_tag o ∷ [];
+  stood = u.stood ++ key_tag o ∷ [];
+  standing = u.standing;
+  aside = u.aside;
+  vouched = u.vouched;
+}
 
 abbrev pub put_offer : List ℕ → Bool → PromiseTree → Target → Offer → Target
 put_offer key spread tree u o = record {
@@ -95,6 +111,18 @@ put_kept key spread name tree offers u =
 abbrev pub put_content : List ℕ → Bool → PromiseName → Content → Target → Target
 put_content key spread name (Bad code) u = put_aside key name code u
 put_content key spread name (Gives tree offers) u = put_kept key spread name tree (kept_offers spread u.own offers) u
+
+-- what is kept of these annotations
+abbrev pub kept_of : List ℕ → List Judged → Target
+kept_of key js = record {
+  number = number_in js;
+  own = map key_tag (own js);
+  tags = map form_tag (given js);
+  stood = map key_tag (given js);
+  standing = standings key js;
+  aside = asides key 0 js;
+  vouched = vouched js;
+}
 
 -- one annotation more
 abbrev pub put_annotation : List ℕ → Target → Annotation → Target

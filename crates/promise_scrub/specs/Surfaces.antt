@@ -4,6 +4,7 @@ use Rattle.std.specs.List.{flat_map}
 use Rattle.java_tree.specs.declared.file.ClassTree.{ClassTree}
 use Rattle.java_tree.specs.declared.member.MemberTree.{MemberTree}
 use Rattle.java_tree.specs.declared.token.Lexeme.{Lexeme}
+use Rattle.desk_base.specs.declared.key.PromiseKey.{PromiseKey}
 use Rattle.promise_grammar.specs.declared.member.MemberContent.{MemberContent}
 use Rattle.promise_grammar.specs.declared.member.MemberName.{MemberName}
 use Rattle.promise_grammar.specs.declared.member.MemberName.TheVariants as member_of
@@ -54,13 +55,19 @@ member_text m = counted (member_name m.name) m.count
 abbrev pub assumed_target : MemberContent → List ℕ
 assumed_target m = m.class ++ codes "." ++ member_text m
 
+abbrev pub member_key : MemberContent → List ℕ
+member_key m = text_of (member_text m)
+
+abbrev pub assumed_key : MemberContent → Offer → PromiseKey
+assumed_key m offer = record { target = text_of (assumed_target m); name = offer.name; detail = offer.detail }
+
 -- an assumed promise, under the key that it has at the member
 abbrev pub assumption_with : MemberContent → Offer → Option PromiseTree → List Assumption
 assumption_with m offer None = []
 assumption_with m offer (Some tree) = record {
   class = m.class;
-  member = text_of (member_text m);
-  key = record { target = text_of (assumed_target m); name = offer.name; detail = offer.detail };
+  member = member_key m;
+  key = assumed_key m offer;
   tree = tree;
 } ∷ []
 
@@ -130,16 +137,16 @@ member_units class regions locks scoped (k ∷ ks) (a ∷ rest) (m ∷ ms) =
     record { key = k; annotations = member_annotations (member_facts class regions locks m) m a scoped }
     ∷ member_units class regions locks scoped ks rest ms
 
-abbrev pub header_unit : ClassTree → List Mark → Kinds → Kinds → List (Option FindingCode) → UnitAnnotations
-header_unit class header regions locks codes = record {
+abbrev pub header_unit_in : ClassTree → Facts → List Mark → List (Option FindingCode) → UnitAnnotations
+header_unit_in class at header codes = record {
   key = text_of class.name.text;
-  annotations = header_annotations (class_facts class.name.text regions locks) (header_site class.kind) header codes;
+  annotations = header_annotations at (header_site class.kind) header codes;
 }
 
 -- the units of a class: the header, then the members in written order
 abbrev pub units_of : ClassTree → List Mark → List (List Mark) → Kinds → Kinds → List (Option FindingCode) → List UnitAnnotations
 units_of class header members regions locks codes =
-    header_unit class header regions locks codes
+    header_unit_in class (class_facts class.name.text regions locks) header codes
     ∷ member_units class.name.text regions locks (scoped_of (header_site class.kind) header) (member_keys class) members class.members
 
 -- ---- the surface

@@ -15,7 +15,7 @@ use desk_base::{Bytes, Items, Name, OutOfMemory, PromiseName, Text};
 use java_tree::{MemberTree, Param};
 use promise_grammar::{BorrowedContent, EffectsContent, LockItem, PromiseTree, UniqueContent};
 use result_records::FindingCode;
-use std::alloc::Global;
+use std::alloc::{AllocError, Global};
 use std::collections::BTreeMap;
 
 /// A promise that an annotation offers at its target: the kind of the annotation, the kind and the
@@ -26,6 +26,19 @@ pub struct Offer {
     pub name: PromiseName,
     pub detail: Text,
     pub code: Option<FindingCode>,
+}
+
+impl Clone for Offer {
+    ghost is_clone = { λ offer copy. copy ≡ offer };
+
+    fn clone(&self) -> Result<Offer, AllocError> {
+        Ok(Offer {
+            form: self.form,
+            name: self.name,
+            detail: self.detail.clone()?,
+            code: self.code,
+        })
+    }
 }
 
 fn colon(alloc: Global, owner: &[u8], name: &[u8]) -> Result<Bytes, OutOfMemory>
