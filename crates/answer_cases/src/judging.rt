@@ -4,7 +4,7 @@ ghost use Rattle.first_form.specs.WrittenNames.{AsciiNames};
 
 use desk_base::{Items, Name, OutOfMemory, Span};
 use first_judge::{ClassFile, Parts};
-use java_tree::{Annot, ClassTree, Elements, Mod, TypeKind, Lexeme};
+use java_tree::{Annot, AnnotLayer, ClassTree, Elements, Mod, TypeKind, Lexeme};
 use report::report_text;
 use std::alloc::Global;
 use std::test::Fail;
@@ -18,9 +18,12 @@ fn locked_class(alloc: Global, name: &[u8]) -> Result<ClassTree, OutOfMemory>
 {
     let mut mods = Items::new(alloc);
     mods.push(Mod::Annot(Annot {
-        at: NOWHERE,
-        name: Items::new(alloc),
-        elements: Elements::Bare,
+        layer: AnnotLayer {
+            at: NOWHERE,
+            name: Items::new(alloc),
+            elements: Elements::Bare,
+        },
+        inner: Items::new(alloc),
     }))?;
     Ok(ClassTree {
         mods,

@@ -6,3 +6,4 @@ pub mod PathSet
 pub mod Entries
 pub mod Whole
 pub mod Taken
+pub mod Faults

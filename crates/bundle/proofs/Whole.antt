@@ -37,7 +37,7 @@ continues (e ∷ front) (f ∷ all) rest fits fits' same =
     let P : Entry → Type 0 = λ x. Continues (e ∷ front) (x ∷ all) rest in
     subst P one.0 (continue_by e front all rest (continues front all rest (each_tail e front fits) (each_tail f all fits') one.1))
 
-front_files : (front more : List Entry) → AreFiles (front ++ more) → AreFiles front
+pub front_files : (front more : List Entry) → AreFiles (front ++ more) → AreFiles front
 front_files front more good = record {
   each = λ k d low. subst IsEntry (get_or_append_left front more d k low) (good.each k d (omega (arith, length-append front more)));
   distinct = λ i j d low high same.
@@ -82,7 +82,7 @@ one_list bytes first second one two =
     let c = continues first second end_line one.good.each two.good.each (sym one.whole ∙ two.whole) in
     sym (c.files ∙ ap (λ l. first ++ l) (ends_here c.more c.left) ∙ append-nil first)
 
-none_more : (more : List ℕ) (files : List Entry) (e : Entry) (rest : List ℕ) → end_line ++ more ≡ entry_bytes e ++ rest → ⊥
+pub none_more : (more : List ℕ) (files : List Entry) (e : Entry) (rest : List ℕ) → end_line ++ more ≡ entry_bytes e ++ rest → ⊥
 none_more more files e rest same = cc
 
 -- no bytes with a place at fault are a bundle

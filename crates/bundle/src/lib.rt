@@ -10,4 +10,4 @@ mod unique;
 pub use bundle::{BundleError, check_bundle, read_bundle};
 pub use entry::{FileEntry, next_entry};
 pub use path::is_good_path;
-pub use unique::one_bundle;
+pub use unique::{one_bundle, one_fault};

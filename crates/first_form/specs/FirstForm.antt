@@ -15,10 +15,10 @@ use Rattle.java_tree.specs.declared.stmt.Stmt.{Stmt, out-Stmt}
 use Rattle.java_tree.specs.declared.stmt.BlockItem.{BlockItem, out-BlockItem}
 use Rattle.java_tree.specs.declared.stmt.BlockItem.TheOpen.{BlockItem-F, Stmt-F}
 use Rattle.java_tree.specs.declared.stmt.Block.{Block, out-Block}
-use Rattle.java_tree.specs.declared.member.Annot.{Annot, out-Annot}
-use Rattle.java_tree.specs.declared.member.Elements.{Elements, out-Elements}
-use Rattle.java_tree.specs.declared.member.Elem.{Elem, out-Elem}
-use Rattle.java_tree.specs.declared.member.Elem.TheOpen.{Elements-F, Elem-F}
+use Rattle.java_tree.specs.declared.member.Elements.{Elements}
+use Rattle.java_tree.specs.declared.member.Elements.TheVariants as elements
+use Rattle.java_tree.specs.declared.member.Elem.{Elem}
+use Rattle.java_tree.specs.declared.member.Elem.TheVariants as element
 use Rattle.java_tree.specs.declared.member.Mod.{Mod}
 use Rattle.java_tree.specs.declared.member.Mod.TheVariants as modifier
 use Rattle.java_tree.specs.declared.member.ModWord.TheVariants as modword
@@ -170,19 +170,13 @@ IsMember Known _ = ⊥
 abbrev pub lock_text : List ℕ
 lock_text = 34 ∷ codes "L is this protects Instance" ++ 34 ∷ []
 
-abbrev pub IsElemAt : Elem-F Elem Elements Annot → Type 0
-IsElemAt (Elem-F.Str text) = text.text ≡ lock_text
-IsElemAt _ = ⊥
-
 abbrev pub IsElem : Elem → Type 0
-IsElem elem = IsElemAt (out-Elem elem)
-
-abbrev pub AreElementsAt : Elements-F Elem Elements Annot → Type 0
-AreElementsAt (Elements-F.One opening None elem closing) = IsElem elem
-AreElementsAt _ = ⊥
+IsElem (element.Str text) = text.text ≡ lock_text
+IsElem element.Annot = ⊥
 
 abbrev pub AreElements : Elements → Type 0
-AreElements elements = AreElementsAt (out-Elements elements)
+AreElements (elements.One opening None elem closing) = IsElem elem
+AreElements _ = ⊥
 
 -- the simple name of the lock's annotation
 abbrev pub IsLockName : List Lexeme → Type 0
@@ -190,7 +184,7 @@ IsLockName (word ∷ []) = word.text ≡ codes "RegionLock"
 IsLockName _ = ⊥
 
 abbrev pub IsLock : Mod → Type 0
-IsLock (modifier.Annot annot) = IsLockName (out-Annot annot).name × AreElements (out-Annot annot).elements
+IsLock (modifier.Annot annot) = IsLockName annot.layer.name × AreElements annot.layer.elements
 IsLock _ = ⊥
 
 -- nothing, or the lock

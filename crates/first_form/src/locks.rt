@@ -13,7 +13,7 @@ fn is_elem(elem: &Elem) -> bool
 {
     match elem {
         Elem::Str(text) => text.text.as_slice() == LOCK_TEXT,
-        Elem::Annot(_) => false,
+        Elem::Annot => false,
     }
 }
 
@@ -21,7 +21,7 @@ fn are_elements(elements: &Elements) -> bool
     ensures { IsTrue result ↔ spec.AreElements elements.now }
 {
     match elements {
-        Elements::One(_, None, elem, _) => is_elem(elem.get()),
+        Elements::One(_, None, elem, _) => is_elem(elem),
         _ => false,
     }
 }
@@ -39,7 +39,9 @@ fn is_lock(lock: &Mod) -> bool
     ensures { IsTrue result ↔ spec.IsLock lock.now }
 {
     match lock {
-        Mod::Annot(annot) => is_lock_name(annot.name.as_slice()) && are_elements(&annot.elements),
+        Mod::Annot(annot) => {
+            is_lock_name(annot.layer.name.as_slice()) && are_elements(&annot.layer.elements)
+        }
         Mod::Word(..) => false,
     }
 }

@@ -1,7 +1,7 @@
 use java_heads::{one_part, read_field, read_header, read_import, read_package, read_sig};
 use java_lexer::lex;
 use java_phrases::{SyntaxError, Tokens};
-use java_tree::{Elem, Elements, Mod};
+use java_tree::{Elem, Elements, InnerAnnot, Mod};
 use std::alloc::Global;
 use std::test::Fail;
 
@@ -72,7 +72,7 @@ fn reads_parts(rt: HostRuntime) -> Result<(), Fail> {
 fn is_text(elem: &Elem, wanted: &[u8]) -> bool {
     match elem {
         Elem::Str(text) => text.text.as_slice() == wanted,
-        Elem::Annot(_) => false,
+        Elem::Annot => false,
     }
 }
 
@@ -86,16 +86,20 @@ fn keeps_the_tree(rt: HostRuntime) -> Result<(), Fail> {
     let Some(Mod::Annot(outer)) = field.mods.get(0) else {
         return Err(Fail::from("no annotation"));
     };
-    let Elements::Many(_, None, elems, _) = &outer.elements else {
+    let Elements::Many(_, None, elems, _) = &outer.layer.elements else {
         return Err(Fail::from("no elements in braces"));
     };
-    let Some(Elem::Annot(inner)) = elems.get(1) else {
+    let Some(Elem::Annot) = elems.get(1) else {
         return Err(Fail::from("no inner annotation"));
     };
-    let Elements::One(_, None, elem, _) = &inner.get().elements else {
+    assert_eq!(rt; outer.inner.len(), 1);
+    let Some(InnerAnnot { depth: 1, layer }) = outer.inner.get(0) else {
+        return Err(Fail::from("no inner annotation of depth 1"));
+    };
+    let Elements::One(_, None, elem, _) = &layer.elements else {
         return Err(Fail::from("no inner element"));
     };
-    assert!(rt; is_text(elem.get(), b"\"y\""));
+    assert!(rt; is_text(elem, b"\"y\""));
     Ok(())
 }
 
@@ -115,14 +119,15 @@ fn nest(alloc: Global, depth: usize, is_closed: bool) -> Result<Vec<u8>, Fail> {
     Ok(text)
 }
 
-/// Annotations in one another. Where too many are open, the tree would be too deep to be dropped.
+/// Annotations in one another, however deep, are read or refused like any text.
 #[test]
 fn deep_annotations(rt: HostRuntime) -> Result<(), Fail> {
     for (depth, is_closed, wanted) in [
         (1_000, true, None),
-        (1_000, false, Some(SyntaxError::NotSpelled)),
-        (65_000, true, Some(SyntaxError::OutOfMemory)),
-        (87_000, false, Some(SyntaxError::OutOfMemory)),
+        (1_026, true, None),
+        (1_026, false, Some(SyntaxError::NotSpelled)),
+        (65_000, true, None),
+        (87_381, false, Some(SyntaxError::NotSpelled)),
     ] {
         let text = nest(rt.alloc(), depth, is_closed)?;
         assert!(rt; text.len() < 300_000);

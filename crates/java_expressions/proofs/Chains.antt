@@ -18,13 +18,14 @@ use Rattle.java_tree.specs.declared.expr.BinaryOp.{BinaryOp}
 use Rattle.java_expressions.specs.declared.tall.Tall.{Tall}
 use Rattle.java_expressions.specs.declared.tall.Arguments.{Arguments}
 use Rattle.java_phrases.specs.Phrase.{Mark, Sign, Spelled}
-use Rattle.java_expressions.specs.Spelling.{sign_of, level_of, smallest_digits, Smallest, Layered, Spells}
+use Rattle.java_phrases.specs.Texts.{smallest_digits}
+use Rattle.java_expressions.specs.Spelling.{sign_of, level_of, Smallest, Layered, Spells}
 use Rattle.java_phrases.specs.Parser.{Outcome, Found, Parser, next_kind, sees, sees_text, word, turns_from, turns}
-use Rattle.java_expressions.specs.Reading.{tall, binary_tree, selection, post, post_within, inverted, smallest, negated, unary_by, unary, operation, climb, climbs, level, expr, arguments, sees_smallest}
+use Rattle.java_expressions.specs.Reading.{tall, binary_tree, selection, post, post_read, inverted, smallest, negated, unary_by, unary, operation, climb, climbs, level, expr, arguments, sees_smallest}
 use Rattle.java_phrases.proofs.Phrases.{next-sign, next-mark, sign-complete, word-complete, sign-mark}
 use Rattle.java_phrases.proofs.Loops.{turn_once, turn_ends}
 use Rattle.java_expressions.proofs.Sound.{Reading-sound, sign-shorter, word-shorter, next-level, arguments-sound, expr-sound}
-use Rattle.java_expressions.proofs.Complete.{sees-kind, Closed, closed-operator, next_is, tighter, seven, spells-opens, is_unary, is_post, is_primary, leads, as_post, Finds, Reading-complete, Leads, same-tree, args-complete, primary-complete}
+use Rattle.java_expressions.proofs.Complete.{sees-kind, Closed, closed-operator, next_is, tighter, seven, spells-opens, is_unary, is_post, is_primary, leads, as_post, FindsTall, Reading-complete, Leads, same-tree, args-complete, primary-complete}
 
 -- A loop has come to the expression, and may go on at rest.
 pub record Reaches (m : ℕ) (outcome : Outcome Tall) (goes : List Token → Bool) (turn : Tall → Parser Tall) (e : Expr) (rest : List Token) : Type 0 where
@@ -164,13 +165,13 @@ module _ (room : ℕ) (inner : ℕ → Parser Tall) (known : Reading-sound room 
   operand-closed : (ts : List Token) → sees k.Dot ts ≡ false → sees k.LParen ts ≡ false → Closed 7 ts
   operand-closed ts stop free = record { operators = seven ts; dot = stop; call = free }
 
-  unary-post : (m p : ℕ) (f : Expr-F Expr) (ts rest : List Token) → m ≤ room → is_post f ≡ true → Layered m (Spells m) p f ts rest → sees k.Dot rest ≡ false → sees k.LParen rest ≡ false → Finds (m + 1) (unary inner room ts) (roll-Expr f) rest
+  unary-post : (m p : ℕ) (f : Expr-F Expr) (ts rest : List Token) → m ≤ room → is_post f ≡ true → Layered m (Spells m) p f ts rest → sees k.Dot rest ≡ false → sees k.LParen rest ≡ false → FindsTall (m + 1) (unary inner room ts) (roll-Expr f) rest
   unfolding unary
   unary-post m p f ts rest fits is s stop free =
       let found = post-complete m f ts rest fits (as_post m (Spells m) p f ts rest is s) stop free in
       record { height = found.finds.height; low = found.finds.low; is = rw (found.next) (ap (λ q. q ts) (unary-plain inner room found.kind found.leading) ∙ found.finds.is) }
 
-  unary-complete : (m p : ℕ) (f : Expr-F Expr) (ts rest : List Token) → m ≤ room → is_unary f ≡ true → Layered m (Spells m) p f ts rest → sees k.Dot rest ≡ false → sees k.LParen rest ≡ false → Finds (m + 1) (unary inner room ts) (roll-Expr f) rest
+  unary-complete : (m p : ℕ) (f : Expr-F Expr) (ts rest : List Token) → m ≤ room → is_unary f ≡ true → Layered m (Spells m) p f ts rest → sees k.Dot rest ≡ false → sees k.LParen rest ≡ false → FindsTall (m + 1) (unary inner room ts) (roll-Expr f) rest
   unfolding unary inverted negated smallest
   unary-complete m p (Expr-F.Not at e) ts rest fits is (low, (t1, s1, s2)) stop free =
       let y = complete m 7 e t1 rest fits (lit≤ tt) s2 (operand-closed rest stop free) in
@@ -233,12 +234,12 @@ module _ (room : ℕ) (inner : ℕ → Parser Tall) (known : Reading-sound room 
       }
   level-reaches least m p f ts rest fits above s closed = level-unary least m p f ts rest fits refl s closed
 
-  pub level-complete : (m p : ℕ) (f : Expr-F Expr) (ts rest : List Token) → m ≤ room → Layered m (Spells m) p f ts rest → Closed p rest → Finds (m + 1) (level inner room p ts) (roll-Expr f) rest
+  pub level-complete : (m p : ℕ) (f : Expr-F Expr) (ts rest : List Token) → m ≤ room → Layered m (Spells m) p f ts rest → Closed p rest → FindsTall (m + 1) (level inner room p ts) (roll-Expr f) rest
   level-complete m p f ts rest fits s closed =
       let b = level-reaches p m p f ts rest fits (omega arith) s (record { operators = tighter p (p + 1) rest closed.operators (omega arith); dot = closed.dot; call = closed.call }) in
       record { height = b.height; low = b.low; is = b.is ∙ turn_ends (climbs p) (climb inner room p) b.left (tall (roll-Expr f) b.height) rest b.enough closed.operators }
 
-unrolled : (m : ℕ) (outcome : Outcome Tall) (e : Expr) (rest : List Token) → Finds (m + 1) outcome (roll-Expr (out-Expr e)) rest → Finds (suc m) outcome e rest
+unrolled : (m : ℕ) (outcome : Outcome Tall) (e : Expr) (rest : List Token) → FindsTall (m + 1) outcome (roll-Expr (out-Expr e)) rest → FindsTall (suc m) outcome e rest
 unrolled m outcome e rest found = record { height = found.height; low = let h = found.low in omega arith; is = found.is ∙ same-tree found.height rest (roll-out-Expr e) }
 
 pub expr-complete : (room : ℕ) → Reading-complete room (expr room)
@@ -249,8 +250,8 @@ expr-complete (suc room) zero p e ts rest fits at s closed = absurd s
 expr-complete (suc room) (suc m) p e ts rest fits at s closed =
     unrolled m (level (expr room) room p ts) e rest (level-complete room (expr room) (expr-sound room) (expr-complete room) m p (out-Expr e) ts rest (omega arith) s closed)
 
-pub post_within-complete : (limit : ℕ) (e : Expr) (ts rest : List Token) → Spells limit 8 e ts rest → sees k.Dot rest ≡ false → sees k.LParen rest ≡ false → Finds limit (post_within limit ts) e rest
-unfolding post_within Spells
-post_within-complete zero e ts rest s stop free = absurd s
-post_within-complete (suc room) e ts rest s stop free =
+pub post_read-complete : (limit : ℕ) (e : Expr) (ts rest : List Token) → Spells limit 8 e ts rest → sees k.Dot rest ≡ false → sees k.LParen rest ≡ false → FindsTall limit (post_read limit ts) e rest
+unfolding post_read Spells
+post_read-complete zero e ts rest s stop free = absurd s
+post_read-complete (suc room) e ts rest s stop free =
     unrolled room (post (expr room) room ts) e rest (post-complete room (expr room) (expr-sound room) (expr-complete room) room (out-Expr e) ts rest (omega arith) s stop free).finds

@@ -20,7 +20,8 @@ use Rattle.java_expressions.specs.declared.tall.Tall.{Tall}
 use Rattle.java_expressions.specs.declared.tall.Listed.{Listed}
 use Rattle.java_expressions.specs.declared.tall.Arguments.{Arguments}
 use Rattle.java_phrases.specs.Phrase.{Phrase, ◌⨾◌, Mark, Sign, Spelled, Separated, Each}
-use Rattle.java_expressions.specs.Spelling.{sign_of, level_of, smallest_digits, thread_name, Args, Layered, Spells}
+use Rattle.java_phrases.specs.Texts.{smallest_digits, thread_name}
+use Rattle.java_expressions.specs.Spelling.{sign_of, level_of, Args, Layered, Spells}
 use Rattle.java_phrases.specs.Parser.{Outcome, Found, Parser, ◌>>=◌, pure, same_kind, next_kind, sees, sees_text, sign, turns_from, turns}
 use Rattle.java_expressions.specs.Reading.{tall, none, with_item, small, class_name, one_more, some_items, items_by, arguments, named, created, parenthesized, primary_by, primary, climbs, next_operator, operator_by, operator, tight, sees_smallest}
 use Rattle.java_phrases.proofs.Phrases.{sees-next, next-sign, next-mark, next-word, sign-complete, word-complete, sign-mark}
@@ -217,13 +218,13 @@ as_post room Inner p (Expr-F.Neg at e) ts rest is s = cc
 as_post room Inner p _ ts rest is s = s
 
 -- what an inner parser finds
-pub record Finds (m : ℕ) (outcome : Outcome Tall) (e : Expr) (rest : List Token) : Type 0 where
+pub record FindsTall (m : ℕ) (outcome : Outcome Tall) (e : Expr) (rest : List Token) : Type 0 where
   pub height : ℕ
   pub low : height ≤ m
   pub is : outcome ≡ Found (tall e height) rest
 
 abbrev pub Reading-complete : ℕ → (ℕ → Parser Tall) → Type 0
-Reading-complete room inner = (m p : ℕ) (e : Expr) (ts rest : List Token) → m ≤ room → p ≤ 7 → Spells m p e ts rest → Closed p rest → Finds m (inner p ts) e rest
+Reading-complete room inner = (m p : ℕ) (e : Expr) (ts rest : List Token) → m ≤ room → p ≤ 7 → Spells m p e ts rest → Closed p rest → FindsTall m (inner p ts) e rest
 
 pub record FindsList (m : ℕ) (outcome : Outcome Listed) (items : List Expr) (rest : List Token) : Type 0 where
   pub height : ℕ
@@ -237,7 +238,7 @@ pub record FindsArgs (m : ℕ) (outcome : Outcome Arguments) (items : List Expr)
 
 -- what an inner parser finds, and with which kind of token it begins
 pub record Leads (m : ℕ) (outcome : Outcome Tall) (e : Expr) (ts rest : List Token) : Type 0 where
-  pub finds : Finds m outcome e rest
+  pub finds : FindsTall m outcome e rest
   pub kind : Kind
   pub next : next_kind ts ≡ Some kind
   pub leading : leads kind ≡ true

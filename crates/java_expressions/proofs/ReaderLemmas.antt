@@ -11,13 +11,13 @@ use Rattle.java_phrases.specs.declared.tokens.Tokens.{Tokens}
 use Rattle.java_expressions.specs.declared.tall.Tall.{Tall}
 use Rattle.java_expressions.specs.Spelling.{Spells, Ends, goes_on_with}
 use Rattle.java_phrases.specs.Cursor.{Steps, ahead}
-use Rattle.java_expressions.specs.Answers.{Gives}
+use Rattle.java_phrases.specs.Answers.{Gives}
 use Rattle.java_phrases.specs.Parser.{Outcome, Found, Lost, Parser, same_kind, next_kind, sees}
-use Rattle.java_expressions.specs.Reading.{tall, ended, ended_by, expr, post_within, goes_on, operator, next_operator}
+use Rattle.java_expressions.specs.Reading.{tall, ended, ended_by, expr, post_read, goes_on, operator, next_operator}
 use Rattle.java_phrases.proofs.Phrases.{and_then-some}
-use Rattle.java_expressions.proofs.Complete.{Closed, closed-by, Finds}
-use Rattle.java_expressions.proofs.Chains.{expr-complete, post_within-complete}
-use Rattle.java_expressions.proofs.Sound.{expr-sound, post_within-sound}
+use Rattle.java_expressions.proofs.Complete.{Closed, closed-by, FindsTall}
+use Rattle.java_expressions.proofs.Chains.{expr-complete, post_read-complete}
+use Rattle.java_expressions.proofs.Sound.{expr-sound, post_read-sound}
 
 goes_off : (ts : List Token) → goes_on ts ≡ false → Ends ts
 unfolding goes_on next_kind
@@ -48,9 +48,9 @@ found_expr limit (Ok e) old new (is, kept) =
     ended-sound (expr limit 1) 1 limit (ahead old) (ahead new) e (λ y mid f. let (node, low, off) = expr-sound limit 1 (ahead old) mid y (lit≤ tt) f in node.spelled limit 1 low (lit≤ tt)) is
 found_expr limit (Err e) old new reads = tt
 
-pub found_post : (limit : ℕ) (r : Result Expr SyntaxError) (old new : Tokens) → Steps (ended (post_within limit)) old r new → IfOk r (λ e. Spells limit 8 e (ahead old) (ahead new) × Ends (ahead new))
+pub found_post : (limit : ℕ) (r : Result Expr SyntaxError) (old new : Tokens) → Steps (ended (post_read limit)) old r new → IfOk r (λ e. Spells limit 8 e (ahead old) (ahead new) × Ends (ahead new))
 found_post limit (Ok e) old new (is, kept) =
-    ended-sound (post_within limit) 8 limit (ahead old) (ahead new) e (λ y mid f. let (node, low) = post_within-sound limit (ahead old) mid y f in node.spelled limit 8 low (lit≤ tt)) is
+    ended-sound (post_read limit) 8 limit (ahead old) (ahead new) e (λ y mid f. let (node, low) = post_read-sound limit (ahead old) mid y f in node.spelled limit 8 low (lit≤ tt)) is
 found_post limit (Err e) old new reads = tt
 
 -- ---- what tokens spell is found
@@ -81,7 +81,7 @@ closed-end p (t ∷ ts) ends = let (a, b, d) = kinds-off t.kind (ends) in closed
 ended-complete : (p : Parser Tall) (e : Expr) (h : ℕ) (ts rest : List Token) → p ts ≡ Found (tall e h) rest → Ends rest → ended p ts ≡ Found e rest
 ended-complete p e h ts rest is ends = rw (is, off_goes rest ends) refl
 
-gives : (p : Parser Tall) (limit : ℕ) (r : Result Expr SyntaxError) (old new : Tokens) → Steps (ended p) old r new → (e : Expr) (rest : List Token) → Finds limit (p (ahead old)) e rest → Ends rest → Gives r (ahead new) e rest
+gives : (p : Parser Tall) (limit : ℕ) (r : Result Expr SyntaxError) (old new : Tokens) → Steps (ended p) old r new → (e : Expr) (rest : List Token) → FindsTall limit (p (ahead old)) e rest → Ends rest → Gives r (ahead new) e rest
 gives p limit (Ok found) old new (is, kept) e rest finds ends =
     let same : Found found (ahead new) ≡ Found e rest = sym is ∙ ended-complete p e finds.height (ahead old) rest finds.is ends in
     (cc, cc)
@@ -96,11 +96,11 @@ pub only_expr : (limit : ℕ) (r : Result Expr SyntaxError) (old new : Tokens) �
 only_expr limit r old new reads e rest s ends =
     gives (expr limit 1) limit r old new reads e rest (expr-complete limit limit 1 e (ahead old) rest (le_refl limit) (lit≤ tt) s (closed-end 1 rest ends)) ends
 
-pub only_post : (limit : ℕ) (r : Result Expr SyntaxError) (old new : Tokens) → Steps (ended (post_within limit)) old r new
+pub only_post : (limit : ℕ) (r : Result Expr SyntaxError) (old new : Tokens) → Steps (ended (post_read limit)) old r new
     → (e : Expr) (rest : List Token) → Spells limit 8 e (ahead old) rest → Ends rest → Gives r (ahead new) e rest
 only_post limit r old new reads e rest s ends =
     let closed = closed-end 8 rest ends in
-    gives (post_within limit) limit r old new reads e rest (post_within-complete limit e (ahead old) rest s closed.dot closed.call) ends
+    gives (post_read limit) limit r old new reads e rest (post_read-complete limit e (ahead old) rest s closed.dot closed.call) ends
 
 -- ---- tokens begin with one expression at most
 
@@ -109,7 +109,7 @@ same_found one other h g one_rest other_rest same =
     let tree : tall one h ≡ tall other g = cc in
     (ap (λ (y : Tall). y.expr) tree, cc)
 
-one_found : {limit : ℕ} (ts one_rest other_rest : List Token) (one other : Expr) (outcome : Outcome Tall) → Finds limit outcome one one_rest → Finds limit outcome other other_rest → (one ≡ other) × (one_rest ≡ other_rest)
+one_found : {limit : ℕ} (ts one_rest other_rest : List Token) (one other : Expr) (outcome : Outcome Tall) → FindsTall limit outcome one one_rest → FindsTall limit outcome other other_rest → (one ≡ other) × (one_rest ≡ other_rest)
 one_found ts one_rest other_rest one other outcome x y = same_found one other x.height y.height one_rest other_rest (sym x.is ∙ y.is)
 
 pub one_expr : (limit : ℕ) (ts one_rest other_rest : List Token) (one other : Expr) → Spells limit 1 one ts one_rest → Ends one_rest → Spells limit 1 other ts other_rest → Ends other_rest

@@ -18,9 +18,10 @@ use Rattle.java_expressions.specs.declared.tall.Tall.{Tall}
 use Rattle.java_expressions.specs.declared.tall.Listed.{Listed}
 use Rattle.java_expressions.specs.declared.tall.Arguments.{Arguments}
 use Rattle.java_phrases.specs.Phrase.{Phrase, ◌⨾◌, Mark, Sign, Spelled, Separated, Each}
-use Rattle.java_expressions.specs.Spelling.{sign_of, level_of, smallest_digits, thread_name, Smallest, Args, Layered, Spells}
+use Rattle.java_phrases.specs.Texts.{smallest_digits, thread_name}
+use Rattle.java_expressions.specs.Spelling.{sign_of, level_of, Smallest, Args, Layered, Spells}
 use Rattle.java_phrases.specs.Parser.{Found, Parser, and_then, ◌>>=◌, pure, fail, same_kind, next_kind, sees, sees_text, sign, word, turns_from, turns}
-use Rattle.java_expressions.specs.Reading.{tall, none, with_item, in_parentheses, call_tree, named_tree, new_tree, paren_tree, select_tree, call_on_tree, not_tree, neg_tree, smallest_tree, binary_tree, small, class_name, one_more, some_items, items_by, arguments, named_by, named, created, parenthesized, primary_by, primary, selected_by, selection, post, inverted, smallest, negated_by, negated, unary_by, unary, operation, climb_by, climb, climbs, level, expr, post_within, next_operator, operator_by, operator, tight, sees_smallest}
+use Rattle.java_expressions.specs.Reading.{tall, none, with_item, in_parentheses, call_tree, named_tree, new_tree, paren_tree, select_tree, call_on_tree, not_tree, neg_tree, smallest_tree, binary_tree, small, class_name, one_more, some_items, items_by, arguments, named_by, named, created, parenthesized, primary_by, primary, selected_by, selection, post, inverted, smallest, negated_by, negated, unary_by, unary, operation, climb_by, climb, climbs, level, expr, post_read, next_operator, operator_by, operator, tight, sees_smallest}
 use Rattle.java_phrases.proofs.Phrases.{and_then-some, pure-is, sign-sound, word-sound, mark-sign}
 
 -- ---- tokens that were taken
@@ -120,7 +121,7 @@ class_by : (w v : Lexeme) (ts mid rest : List Token) (b : Bool) → Spelled k.Na
     → cond b fail (pure w) mid ≡ Found v rest → (v.text ≢ thread_name) × Spelled k.Name v ts rest
 class_by w v ts mid rest true s is e = cc
 class_by w v ts mid rest false s is e =
-    pure-is (λ y r. (y.name ≢ thread_name) × Spelled k.Name y ts r) w v mid rest e (not_bytes false w.text thread_name is refl, s)
+    pure-is (λ y r. (y.text ≢ thread_name) × Spelled k.Name y ts r) w v mid rest e (not_bytes false w.text thread_name is refl, s)
 
 class_name-sound : (ts rest : List Token) (v : Lexeme) → class_name ts ≡ Found v rest → (v.text ≢ thread_name) × Spelled k.Name v ts rest
 unfolding class_name
@@ -559,7 +560,7 @@ expr-sound (suc room) p ts rest y at e =
     let (is, low, off) = level-sound room (expr room) (expr-sound room) p ts rest y at e in
     (is, omega arith, off)
 
-pub post_within-sound : (limit : ℕ) (ts rest : List Token) (y : Tall) → post_within limit ts ≡ Found y rest → IsNode 8 ts y rest × (y.height ≤ limit)
-unfolding post_within
-post_within-sound zero ts rest y e = cc
-post_within-sound (suc room) ts rest y e = let (is, low) = post-sound room (expr room) (expr-sound room) ts rest y e in (is, omega arith)
+pub post_read-sound : (limit : ℕ) (ts rest : List Token) (y : Tall) → post_read limit ts ≡ Found y rest → IsNode 8 ts y rest × (y.height ≤ limit)
+unfolding post_read
+post_read-sound zero ts rest y e = cc
+post_read-sound (suc room) ts rest y e = let (is, low) = post-sound room (expr room) (expr-sound room) ts rest y e in (is, omega arith)

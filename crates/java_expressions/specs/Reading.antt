@@ -14,7 +14,8 @@ use Rattle.java_tree.specs.declared.expr.BinaryOp.TheVariants as op
 use Rattle.java_expressions.specs.declared.tall.Tall.{Tall}
 use Rattle.java_expressions.specs.declared.tall.Listed.{Listed}
 use Rattle.java_expressions.specs.declared.tall.Arguments.{Arguments}
-use Rattle.java_expressions.specs.Spelling.{sign_of, level_of, smallest_digits, thread_name, goes_on_with}
+use Rattle.java_phrases.specs.Texts.{smallest_digits, thread_name}
+use Rattle.java_expressions.specs.Spelling.{sign_of, level_of, goes_on_with}
 use Rattle.java_phrases.specs.Parser.{Parser, Found, ◌>>=◌, ◌>>◌, pure, fail, next_kind, peek, look, sees, sees_text, sign, word, turns}
 
 -- ---- operators
@@ -250,9 +251,9 @@ unfoldable pub expr : ℕ → ℕ → Parser Tall
 expr zero least = fail
 expr (suc room) least = level (expr room) room least
 
-unfoldable pub post_within : ℕ → Parser Tall
-post_within zero = fail
-post_within (suc room) = post (expr room) room
+unfoldable pub post_read : ℕ → Parser Tall
+post_read zero = fail
+post_read (suc room) = post (expr room) room
 
 -- what doesn't go on
 abbrev pub ended_by : Tall → Bool → Parser Expr

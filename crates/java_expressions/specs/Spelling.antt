@@ -1,6 +1,6 @@
 -- Which tokens spell which expression: one clause for each production of the grammar (JLS 8, 15, as
 -- far as the subset goes).
-use Rattle.std.specs.Prelude.{◌≡◌, ◌≢◌, ◌≤◌, ◌<◌, ◌+◌, ℕ, zero, suc, List, [], ◌∷◌, Bool, true, false, IsFalse, codes}
+use Rattle.std.specs.Prelude.{◌≡◌, ◌≢◌, ◌≤◌, ◌<◌, ◌+◌, ℕ, zero, suc, List, [], ◌∷◌, Bool, true, false, IsFalse}
 use Rattle.desk_base.specs.declared.span.Span.{Span}
 use Rattle.java_tree.specs.declared.kind.Kind.{Kind}
 use Rattle.java_tree.specs.declared.kind.Kind.TheVariants as k
@@ -9,6 +9,7 @@ use Rattle.java_tree.specs.declared.expr.Expr.{Expr, out-Expr}
 use Rattle.java_tree.specs.declared.expr.Expr.TheOpen.{Expr-F}
 use Rattle.java_tree.specs.declared.expr.BinaryOp.{BinaryOp}
 use Rattle.java_tree.specs.declared.expr.BinaryOp.TheVariants as op
+use Rattle.java_phrases.specs.Texts.{smallest_digits, thread_name}
 use Rattle.java_phrases.specs.Phrase.{Phrase, ◌⨾◌, ◌⊢◌, ◌∣◌, Never, Mark, Sign, Spelled, Separated}
 
 -- ---- operators
@@ -44,16 +45,6 @@ level_of op.Subtract = 5
 level_of op.Multiply = 6
 level_of op.Divide = 6
 level_of op.Remainder = 6
-
--- ---- numbers and class names
-
--- the number that is written only behind a minus
-abbrev pub smallest_digits : List ℕ
-smallest_digits = codes "2147483648"
-
--- the class that no `new` of an expression names
-abbrev pub thread_name : List ℕ
-thread_name = codes "Thread"
 
 -- 2147483648, behind a minus
 abbrev pub Smallest : Expr-F Expr → Phrase

@@ -450,8 +450,8 @@ pub fn expr(alloc: Global, tokens: &mut Tokens, limit: u8, least: u8) -> Result<
 
 /// An expression without an operator, with at most `limit` nodes on a path, and its height. For readers
 /// that are proved against parsers.
-pub fn post_within(alloc: Global, tokens: &mut Tokens, limit: u8) -> Result<Tall, SyntaxError>
-    ensures { Steps (spec.post_within limit) tokens.old result tokens.new }
+pub fn post_read(alloc: Global, tokens: &mut Tokens, limit: u8) -> Result<Tall, SyntaxError>
+    ensures { Steps (spec.post_read limit) tokens.old result tokens.new }
 {
     if limit == 0 {
         return Err(SyntaxError::NotSpelled);
@@ -477,9 +477,9 @@ pub(crate) fn ended_expr(alloc: Global, tokens: &mut Tokens, limit: u8) -> Resul
 
 /// The same of an expression without an operator.
 pub(crate) fn ended_post(alloc: Global, tokens: &mut Tokens, limit: u8) -> Result<Expr, SyntaxError>
-    ensures { Steps (spec.ended (spec.post_within limit)) tokens.old result tokens.new }
+    ensures { Steps (spec.ended (spec.post_read limit)) tokens.old result tokens.new }
 {
-    let read = post_within(alloc, tokens, limit)?;
+    let read = post_read(alloc, tokens, limit)?;
     if goes_on(tokens) {
         return Err(SyntaxError::NotSpelled);
     }

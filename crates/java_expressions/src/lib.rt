@@ -8,7 +8,7 @@ mod operators;
 mod reader;
 mod tall;
 
-pub use grammar::{expr, post_within};
+pub use grammar::{expr, post_read};
 pub use laws::one_expression;
 pub use reader::{read_expr, read_post};
 pub use tall::Tall;

@@ -3,7 +3,7 @@ ghost use Rattle.java_tree.specs.declared.token.Token.{Token};
 ghost use Rattle.java_tree.specs.declared.expr.Expr.{Expr};
 ghost use Rattle.java_expressions.specs.Spelling.{ExprSpells, PostSpells, Ends};
 ghost use Rattle.java_phrases.specs.Cursor.{ahead, from_start};
-ghost use Rattle.java_expressions.specs.Answers.{Gives};
+ghost use Rattle.java_phrases.specs.Answers.{Gives};
 
 use crate::grammar::{ended_expr, ended_post};
 use java_phrases::{SyntaxError, Tokens};

@@ -2,22 +2,20 @@
 use Rattle.std.proofs.Common.{◌≡◌, ℕ, zero, suc, ◌<◌, Bool, true, false, List, [], ◌∷◌, ◌++◌, length, Option, Some, None, refl, ap, ◌∙◌, sym, subst, arith, append_assoc}
 use Rattle.std.specs.Str.{bytes_eq}
 use Rattle.std.proofs.lemmas.Slice.Eq.{bytes_eq-Decides}
-use Rattle.std.proofs.lemmas.List.{reverse-reverse}
+use Rattle.std.proofs.lemmas.List.{reverse-reverse, append-nil, length-append}
 use Rattle.desk_base.specs.declared.span.Span.{Span}
 use Rattle.java_tree.specs.declared.kind.Kind.{Kind}
 use Rattle.java_tree.specs.declared.kind.Kind.TheVariants as k
 use Rattle.java_tree.specs.declared.token.Token.{Token}
 use Rattle.java_tree.specs.declared.token.Lexeme.{Lexeme}
-use Rattle.java_tree.specs.declared.member.Annot.{Annot, out-Annot}
-use Rattle.java_tree.specs.declared.member.Elements.{Elements, out-Elements, roll-Elements}
+use Rattle.java_tree.specs.declared.member.Annot.{Annot}
+use Rattle.java_tree.specs.declared.member.AnnotLayer.{AnnotLayer}
+use Rattle.java_tree.specs.declared.member.InnerAnnot.{InnerAnnot}
+use Rattle.java_tree.specs.declared.member.Elements.{Elements}
 use Rattle.java_tree.specs.declared.member.Elements.TheVariants as elements
-use Rattle.java_tree.specs.declared.member.Elements.TheVariants.{rolls-Bare, rolls-Empty, rolls-One, rolls-Many}
-use Rattle.java_tree.specs.declared.member.Elem.{Elem, out-Elem, roll-Elem}
+use Rattle.java_tree.specs.declared.member.Elem.{Elem}
 use Rattle.java_tree.specs.declared.member.Elem.TheVariants as element
-use Rattle.java_tree.specs.declared.member.Elem.TheVariants.{rolls-Str, rolls-Annot}
-use Rattle.java_tree.specs.declared.member.Elem.TheViews.{roll-out-Elem, roll-out-Elements}
-use Rattle.java_tree.specs.declared.member.Elem.TheOpen.{Elements-F, Elem-F}
-use Rattle.java_phrases.specs.Phrase.{Phrase, ◌⨾◌, Mark, Sign, Spelled, Each}
+use Rattle.java_phrases.specs.Phrase.{Phrase, ◌⨾◌, Mark, Sign, Spelled, Separated, Each}
 use Rattle.java_phrases.specs.Parser.{Found, next_kind, same_kind, sees}
 use Rattle.java_phrases.proofs.Phrases.{sign-complete, word-complete, next-sign, next-mark, next-word}
 use Rattle.java_phrases.proofs.Turned.{reverse_push}
@@ -25,8 +23,8 @@ use Rattle.java_heads.specs.declared.nest.Frame.{Frame}
 use Rattle.java_heads.specs.declared.nest.Opened.{Opened}
 use Rattle.java_heads.specs.declared.nest.Opened.TheVariants as opened
 use Rattle.java_heads.specs.declared.nest.Nest.{Nest}
-use Rattle.java_heads.specs.Annotation.{Qualified, value_name, ValueWord, ElementsBy, AnnotBy, ElemBy, ElemWithin, AnnotSpells}
-use Rattle.java_heads.specs.Reading.{value_word, annot, frame, with_elem, one_tree, many_tree, closed, inside, filled_by, parenthesized, head, placed, nest, surrounded, entered, turn, none_outside, is_whole, nested_from, nested, annotation, goes_on}
+use Rattle.java_heads.specs.Annotation.{Qualified, value_name, ValueWord, Held, elems_of, inner_of, ElementsBy, AnnotBy, inner_annot, ElemBy, ElemWithin, AnnotSpells}
+use Rattle.java_heads.specs.Reading.{value_word, layer, frame, with_elem, one_tree, many_tree, closed, inside, filled_by, parenthesized, head, placed, text_placed, nest, surrounded, entered, turn, none_outside, is_whole, nested_from, nested, annotation, goes_on}
 use Rattle.java_heads.proofs.Lists.{mark-complete, sees-kind}
 use Rattle.java_heads.proofs.NameLaws.{qualified-complete, goes_off}
 use Rattle.java_heads.proofs.AnnotationSound.{turn-shorter}
@@ -57,30 +55,38 @@ comes-then x y z ts mid rest a b = record {
 comes-turn : (x y : Nest) (ts rest : List Token) → is_whole x ≡ false → turn x ts ≡ Found y rest → Comes x ts y rest
 comes-turn x y ts rest on is = record { go = λ n enough. turn_once n x y ts rest enough on is (turn-shorter x y ts rest is) }
 
-open-goes : (outer : List Frame) (f : Frame) → is_whole (nest outer (opened.Open f)) ≡ false
+open-goes : (outer : List Frame) (ended : List InnerAnnot) (f : Frame) → is_whole (nest outer ended (opened.Open f)) ≡ false
 unfolding is_whole
-open-goes outer f = refl
+open-goes outer ended f = refl
 
 some_outside : (outer : List Frame) (f : Frame) → none_outside (outer ++ f ∷ []) ≡ false
 some_outside [] f = refl
 some_outside (g ∷ outer) f = refl
 
-whole-goes : (outer : List Frame) (f : Frame) (a : Annot) → is_whole (nest (outer ++ f ∷ []) (opened.Whole a)) ≡ false
+whole-goes : (outer : List Frame) (ended : List InnerAnnot) (f : Frame) (a : AnnotLayer) → is_whole (nest (outer ++ f ∷ []) ended (opened.Whole a)) ≡ false
 unfolding is_whole
-whole-goes outer f a = some_outside outer f
+whole-goes outer ended f a = some_outside outer f
 
-turn-text : (outer : List Frame) (f : Frame) (text : Lexeme) (o : Opened) (ts mid rest : List Token) → Spelled k.StrLiteral text ts mid → placed f (element.Str text) mid ≡ Found o rest
-    → turn (nest outer (opened.Open f)) ts ≡ Found (nest outer o) rest
+one-deeper : (outer : List Frame) (f : Frame) → length (outer ++ f ∷ []) ≡ suc (length outer)
+one-deeper outer f = omega (arith, length-append outer (f ∷ []))
+
+turn-text : (outer : List Frame) (ended : List InnerAnnot) (f : Frame) (text : Lexeme) (o : Opened) (ts mid rest : List Token) → Spelled k.StrLiteral text ts mid → placed f (element.Str text) mid ≡ Found o rest
+    → turn (nest outer ended (opened.Open f)) ts ≡ Found (nest outer ended o) rest
+unfolding turn entered text_placed
+turn-text outer ended f text o ts mid rest s is = rw (sees-kind k.StrLiteral k.StrLiteral ts (next-word k.StrLiteral text ts mid s), word-complete k.StrLiteral ts mid text s, is) refl
+
+turn-enter : (outer : List Frame) (ended : List InnerAnnot) (f : Frame) (o : Opened) (ts rest : List Token) → next_kind ts ≡ Some k.At → head ts ≡ Found o rest
+    → turn (nest outer ended (opened.Open f)) ts ≡ Found (nest (outer ++ f ∷ []) ended o) rest
 unfolding turn entered
-turn-text outer f text o ts mid rest s is = rw (sees-kind k.StrLiteral k.StrLiteral ts (next-word k.StrLiteral text ts mid s), word-complete k.StrLiteral ts mid text s, is) refl
+turn-enter outer ended f o ts rest next is = rw (sees-kind k.StrLiteral k.At ts next, is) refl
 
-turn-enter : (outer : List Frame) (f : Frame) (o : Opened) (ts rest : List Token) → next_kind ts ≡ Some k.At → head ts ≡ Found o rest → turn (nest outer (opened.Open f)) ts ≡ Found (nest (outer ++ f ∷ []) o) rest
-unfolding turn entered
-turn-enter outer f o ts rest next is = rw (sees-kind k.StrLiteral k.At ts next, is) refl
-
-turn-leave : (outer : List Frame) (f : Frame) (a : Annot) (o : Opened) (ts rest : List Token) → placed f (element.Annot a) ts ≡ Found o rest → turn (nest (outer ++ f ∷ []) (opened.Whole a)) ts ≡ Found (nest outer o) rest
+turn-leave : (outer : List Frame) (ended : List InnerAnnot) (f : Frame) (a : AnnotLayer) (o : Opened) (ts rest : List Token) → placed f element.Annot ts ≡ Found o rest
+    → turn (nest (outer ++ f ∷ []) ended (opened.Whole a)) ts ≡ Found (nest outer (ended ++ inner_annot (suc (length outer)) a ∷ []) o) rest
 unfolding turn surrounded
-turn-leave outer f a o ts rest is = rw (reverse_push outer f, is) (ap (λ l. Found (nest l o) rest) (reverse-reverse outer))
+turn-leave outer ended f a o ts rest is =
+    rw (reverse_push outer f, is)
+    (ap (λ l. Found (nest l (ended ++ inner_annot (length (outer ++ f ∷ [])) a ∷ []) o) rest) (reverse-reverse outer)
+    ∙ ap (λ m. Found (nest outer (ended ++ inner_annot m a ∷ []) o) rest) (one-deeper outer f))
 
 -- ---- the parts of an annotation
 
@@ -96,7 +102,7 @@ value-first : (kind : Kind) (v : Option Lexeme) (ts rest : List Token) → Value
 value-first kind None ts rest s other off = let P : List Token → Type 0 = λ l. sees kind l ≡ false in subst P (sym s) off
 value-first kind (Some w) ts rest (same, (mid, s, s1)) other off = sees-kind kind k.Name ts (next-word k.Name w ts mid s) ∙ other
 
-head-bare : (at : Span) (name : List Lexeme) (ts t1 rest : List Token) → Sign k.At at ts t1 → Qualified name t1 rest → Suits rest → head ts ≡ Found (opened.Whole (annot at name elements.Bare)) rest
+head-bare : (at : Span) (name : List Lexeme) (ts t1 rest : List Token) → Sign k.At at ts t1 → Qualified name t1 rest → Suits rest → head ts ≡ Found (opened.Whole (layer at name elements.Bare)) rest
 unfolding head
 head-bare at name ts t1 rest s1 s2 suits = rw (sign-complete k.At ts t1 at s1, qualified-complete name t1 rest s2 suits.dot, suits.call) refl
 
@@ -122,14 +128,14 @@ begins-kind kind ts e a b d f = record {
   name = sees-kind k.Name kind ts e ∙ f;
 }
 
-begins-by : (P : Elem → Phrase) (g : Elem-F Elem Elements Annot) (ts rest : List Token) → ElemBy P g ts rest → Begins ts
-begins-by P (Elem-F.Str text) ts rest s = begins-kind k.StrLiteral ts (next-word k.StrLiteral text ts rest s) refl refl refl refl
-begins-by P (Elem-F.Annot a) ts rest (mid, s, s1) = begins-kind k.At ts (next-sign k.At (out-Annot a).at ts mid s) refl refl refl refl
+begins-by : (P : Held → Phrase) (d : ℕ) (elem : Elem) (inner : List InnerAnnot) (ts rest : List Token) → ElemBy P d elem inner ts rest → Begins ts
+begins-by P d (element.Str text) inner ts rest (none, s) = begins-kind k.StrLiteral ts (next-word k.StrLiteral text ts rest s) refl refl refl refl
+begins-by P d element.Annot inner ts rest (a, within, e, (mid, s, s1)) = begins-kind k.At ts (next-sign k.At a.at ts mid s) refl refl refl refl
 
-begins-elem : (n : ℕ) (e : Elem) (ts rest : List Token) → ElemWithin n e ts rest → Begins ts
+begins-elem : (n d : ℕ) (h : Held) (ts rest : List Token) → ElemWithin n d h ts rest → Begins ts
 unfolding ElemWithin
-begins-elem zero e ts rest s = absurd s
-begins-elem (suc n) e ts rest s = begins-by (ElemWithin n) (out-Elem e) ts rest s
+begins-elem zero d h ts rest s = absurd s
+begins-elem (suc n) d h ts rest s = begins-by (ElemWithin n (suc d)) d h.elem h.inner ts rest s
 
 inside-one : (at : Span) (name : List Lexeme) (opening : Span) (value : Option Lexeme) (ts rest : List Token) → ValueWord value ts rest → Begins rest → inside at name opening ts ≡ Found (opened.Open (frame at name opening value false)) rest
 unfolding inside
@@ -166,118 +172,144 @@ placed-last f e closing ts mid rest braces s s1 =
     let (at, is) = mark-complete k.RBrace ts mid s in
     rw (braces, sees-kind k.Comma k.RBrace ts (next-mark k.RBrace ts mid s), is, sign-complete k.RParen mid rest closing s1) refl
 
--- ---- elements, the depth being less by one for those within
+-- ---- elements, the limit being less by one for those within
 
 -- From an open annotation before its element the turns come to where the element is placed.
 abbrev ElemComes : ℕ → Type 0
-ElemComes n = (e : Elem) (f : Frame) (outer : List Frame) (o : Opened) (ts mid rest : List Token) → ElemWithin n e ts mid → Suits mid → placed f e mid ≡ Found o rest → Comes (nest outer (opened.Open f)) ts (nest outer o) rest
+ElemComes n = (h : Held) (f : Frame) (outer : List Frame) (ended : List InnerAnnot) (o : Opened) (ts mid rest : List Token) → ElemWithin n (suc (length outer)) h ts mid → Suits mid → placed f h.elem mid ≡ Found o rest
+    → Comes (nest outer ended (opened.Open f)) ts (nest outer (ended ++ h.inner) o) rest
 
 -- The head is read, and the turns come from there to the whole annotation.
-record Headed (a : Annot) (ts rest : List Token) : Type 0 where
+record Headed (d : ℕ) (a : AnnotLayer) (inner : List InnerAnnot) (ts rest : List Token) : Type 0 where
   first : Opened
   mid : List Token
   is : head ts ≡ Found first mid
-  comes : (outer : List Frame) → Comes (nest outer first) mid (nest outer (opened.Whole a)) rest
+  comes : (outer : List Frame) (ended : List InnerAnnot) → suc (length outer) ≡ d → Comes (nest outer ended first) mid (nest outer (ended ++ inner) (opened.Whole a)) rest
 
-headed-as : (at : Span) (name : List Lexeme) (x y : Elements) (ts rest : List Token) → x ≡ y → Headed (annot at name x) ts rest → Headed (annot at name y) ts rest
-headed-as at name x y ts rest same h = let P : Elements → Type 0 = λ z. Headed (annot at name z) ts rest in subst P same h
+stays : (outer : List Frame) (ended : List InnerAnnot) (a : AnnotLayer) (ts : List Token) → Comes (nest outer ended (opened.Whole a)) ts (nest outer (ended ++ []) (opened.Whole a)) ts
+stays outer ended a ts =
+    let P : List InnerAnnot → Type 0 = λ l. Comes (nest outer ended (opened.Whole a)) ts (nest outer l (opened.Whole a)) ts in
+    subst P (sym (append-nil ended)) (comes-here (nest outer ended (opened.Whole a)) ts)
 
-headed-whole : (a : Annot) (ts rest : List Token) → head ts ≡ Found (opened.Whole a) rest → Headed a ts rest
-headed-whole a ts rest is = record { first = opened.Whole a; mid = rest; is = is; comes = λ outer. comes-here (nest outer (opened.Whole a)) rest }
+headed-whole : (d : ℕ) (a : AnnotLayer) (inner : List InnerAnnot) (ts rest : List Token) → inner ≡ [] → head ts ≡ Found (opened.Whole a) rest → Headed d a inner ts rest
+headed-whole d a inner ts rest none is =
+    let P : List InnerAnnot → Type 0 = λ l. Headed d a l ts rest in
+    subst P (sym none) (record { first = opened.Whole a; mid = rest; is = is; comes = λ outer ended low. stays outer ended a rest })
 
 module _ (n : ℕ) (known : ElemComes n) where
-  items-come : (x : Elem) (xs : List Elem) (f : Frame) (outer : List Frame) (closing : Span) (ts t1 t2 t3 rest : List Token) → f.in_braces ≡ true → ElemWithin n x ts t1 → Each (λ y. Mark k.Comma ⨾ ElemWithin n y) xs t1 t2
-      → Mark k.RBrace t2 t3 → Sign k.RParen closing t3 rest → Comes (nest outer (opened.Open f)) ts (nest outer (opened.Whole (annot f.at f.name (elements.Many f.opening f.value (f.elems ++ x ∷ xs) closing)))) rest
-  items-come x [] f outer closing ts t1 t2 t3 rest braces p each s1 s2 =
+  items-come : (x : Held) (xs : List Held) (f : Frame) (outer : List Frame) (ended : List InnerAnnot) (closing : Span) (ts t1 t2 t3 rest : List Token) → f.in_braces ≡ true → ElemWithin n (suc (length outer)) x ts t1
+      → Each (λ y. Mark k.Comma ⨾ ElemWithin n (suc (length outer)) y) xs t1 t2 → Mark k.RBrace t2 t3 → Sign k.RParen closing t3 rest
+      → Comes (nest outer ended (opened.Open f)) ts (nest outer (ended ++ inner_of (x ∷ xs)) (opened.Whole (layer f.at f.name (elements.Many f.opening f.value (f.elems ++ elems_of (x ∷ xs)) closing)))) rest
+  items-come x [] f outer ended closing ts t1 t2 t3 rest braces p each s1 s2 =
       let Q : List Token → Type 0 = λ l. Mark k.RBrace l t3 in
       let end : Mark k.RBrace t1 t3 = subst Q (sym each) s1 in
-      known x f outer (opened.Whole (many_tree (with_elem f x) closing)) ts t1 rest p (suits-kind k.RBrace t1 (next-mark k.RBrace t1 t3 end) refl refl) (placed-last f x closing t1 t3 rest braces end s2)
-  items-come x (z ∷ zs) f outer closing ts t1 t2 t3 rest braces p (mid, (c1, comma, q), each) s1 s2 =
-      let P : List Elem → Type 0 = λ l. Comes (nest outer (opened.Open f)) ts (nest outer (opened.Whole (annot f.at f.name (elements.Many f.opening f.value l closing)))) rest in
-      subst P (append_assoc f.elems (x ∷ []) (z ∷ zs))
-      (comes-then (nest outer (opened.Open f)) (nest outer (opened.Open (with_elem f x))) (nest outer (opened.Whole (annot f.at f.name (elements.Many f.opening f.value ((f.elems ++ x ∷ []) ++ z ∷ zs) closing)))) ts c1 rest
-      (known x f outer (opened.Open (with_elem f x)) ts t1 c1 p (suits-kind k.Comma t1 (next-mark k.Comma t1 c1 comma) refl refl) (placed-comma f x t1 c1 braces comma))
-      (items-come z zs (with_elem f x) outer closing c1 mid t2 t3 rest braces q each s1 s2))
+      let o : Opened = opened.Whole (many_tree (with_elem f x.elem) closing) in
+      let R : List InnerAnnot → Type 0 = λ l. Comes (nest outer ended (opened.Open f)) ts (nest outer (ended ++ l) o) rest in
+      subst R (sym (append-nil x.inner)) (known x f outer ended o ts t1 rest p (suits-kind k.RBrace t1 (next-mark k.RBrace t1 t3 end) refl refl) (placed-last f x.elem closing t1 t3 rest braces end s2))
+  items-come x (z ∷ zs) f outer ended closing ts t1 t2 t3 rest braces p (mid, (c1, comma, q), each) s1 s2 =
+      let whole : List Elem → Opened = λ l. opened.Whole (layer f.at f.name (elements.Many f.opening f.value l closing)) in
+      let P : List Elem → Type 0 = λ l. Comes (nest outer ended (opened.Open f)) ts (nest outer (ended ++ inner_of (x ∷ z ∷ zs)) (whole l)) rest in
+      let R : List InnerAnnot → Type 0 = λ l. Comes (nest outer ended (opened.Open f)) ts (nest outer l (whole ((f.elems ++ x.elem ∷ []) ++ elems_of (z ∷ zs)))) rest in
+      subst P (append_assoc f.elems (x.elem ∷ []) (elems_of (z ∷ zs)))
+      (subst R (append_assoc ended x.inner (inner_of (z ∷ zs)))
+      (comes-then (nest outer ended (opened.Open f)) (nest outer (ended ++ x.inner) (opened.Open (with_elem f x.elem)))
+      (nest outer ((ended ++ x.inner) ++ inner_of (z ∷ zs)) (whole ((f.elems ++ x.elem ∷ []) ++ elems_of (z ∷ zs)))) ts c1 rest
+      (known x f outer ended (opened.Open (with_elem f x.elem)) ts t1 c1 p (suits-kind k.Comma t1 (next-mark k.Comma t1 c1 comma) refl refl) (placed-comma f x.elem t1 c1 braces comma))
+      (items-come z zs (with_elem f x.elem) outer (ended ++ x.inner) closing c1 mid t2 t3 rest braces q each s1 s2)))
 
-  opens : (at : Span) (name : List Lexeme) (e : Elements-F Elem Elements Annot) (ts t1 t2 rest : List Token) → Sign k.At at ts t1 → Qualified name t1 t2 → ElementsBy (ElemWithin n) e t2 rest → Suits rest → Headed (annot at name (roll-Elements e)) ts rest
-  opens at name Elements-F.Bare ts t1 t2 rest s1 s2 none suits =
-      let P : List Token → Type 0 = λ l. Qualified name t1 l in
-      headed-as at name elements.Bare (roll-Elements Elements-F.Bare) ts rest (sym rolls-Bare) (headed-whole (annot at name elements.Bare) ts rest (head-bare at name ts t1 rest s1 (subst P none s2) suits))
-  opens at name (Elements-F.Empty opening closing) ts t1 t2 rest s1 s2 (t3, s3, s4) suits =
-      headed-as at name (elements.Empty opening closing) (roll-Elements (Elements-F.Empty opening closing)) ts rest (sym (rolls-Empty opening closing))
-      (headed-whole (annot at name (elements.Empty opening closing)) ts rest
-      (head-filled at name opening (opened.Whole (annot at name (elements.Empty opening closing))) ts t1 t2 t3 rest true s1 s2 s3 (sees-kind k.RParen k.RParen t3 (next-sign k.RParen closing t3 rest s4)) (rw (sign-complete k.RParen t3 rest closing s4) refl)))
-  opens at name (Elements-F.One opening value e closing) ts t1 t2 rest s1 s2 (t3, s3, (t4, s4, (t5, s5, s6))) suits =
-      let begins = begins-elem n e t4 t5 s5 in
-      let f : Frame = frame at name opening value false in
-      headed-as at name (elements.One opening value e closing) (roll-Elements (Elements-F.One opening value e closing)) ts rest (sym (rolls-One opening value e closing))
-      (record {
-        first = opened.Open f;
-        mid = t4;
-        is = head-filled at name opening (opened.Open f) ts t1 t2 t3 t4 false s1 s2 s3 (value-first k.RParen value t3 t4 s4 refl begins.paren) (inside-one at name opening value t3 t4 s4 begins);
-        comes = λ outer. known e f outer (opened.Whole (one_tree f e closing)) t4 t5 rest s5 (suits-kind k.RParen t5 (next-sign k.RParen closing t5 rest s6) refl refl) (placed-single f e closing t5 rest refl s6);
-      })
-  opens at name (Elements-F.Many opening value [] closing) ts t1 t2 rest s1 s2 (t3, s3, (t4, s4, (t5, s5, (t6, none, (t7, s7, s8))))) suits =
+  at-depth : (d m : ℕ) (h : Held) (ts rest : List Token) → m ≡ d → ElemWithin n d h ts rest → ElemWithin n m h ts rest
+  at-depth d m h ts rest low s = let D : ℕ → Type 0 = λ l. ElemWithin n l h ts rest in subst D (sym low) s
+
+  each-depth : (d m : ℕ) (xs : List Held) (ts rest : List Token) → m ≡ d → Each (λ y. Mark k.Comma ⨾ ElemWithin n d y) xs ts rest → Each (λ y. Mark k.Comma ⨾ ElemWithin n m y) xs ts rest
+  each-depth d m xs ts rest low s = let D : ℕ → Type 0 = λ l. Each (λ y. Mark k.Comma ⨾ ElemWithin n l y) xs ts rest in subst D (sym low) s
+
+  opens-many : (d : ℕ) (at : Span) (name : List Lexeme) (opening : Span) (value : Option Lexeme) (held : List Held) (closing : Span) (ts t1 t2 t3 t4 t5 t6 t7 rest : List Token) → Sign k.At at ts t1 → Qualified name t1 t2
+      → Sign k.LParen opening t2 t3 → ValueWord value t3 t4 → Mark k.LBrace t4 t5 → Separated (ElemWithin n d) held t5 t6 → Mark k.RBrace t6 t7 → Sign k.RParen closing t7 rest
+      → Headed d (layer at name (elements.Many opening value (elems_of held) closing)) (inner_of held) ts rest
+  opens-many d at name opening value [] closing ts t1 t2 t3 t4 t5 t6 t7 rest s1 s2 s3 s4 s5 none s7 s8 =
       let Q : List Token → Type 0 = λ l. Mark k.RBrace l t7 in
       let end : Mark k.RBrace t5 t7 = subst Q (sym none) s7 in
-      headed-as at name (elements.Many opening value [] closing) (roll-Elements (Elements-F.Many opening value [] closing)) ts rest (sym (rolls-Many opening value [] closing))
-      (headed-whole (annot at name (elements.Many opening value [] closing)) ts rest
-      (head-filled at name opening (opened.Whole (annot at name (elements.Many opening value [] closing))) ts t1 t2 t3 rest false s1 s2 s3
-      (value-first k.RParen value t3 t4 s4 refl (sees-kind k.RParen k.LBrace t4 (next-mark k.LBrace t4 t5 s5))) (inside-none at name opening value closing t3 t4 t5 t7 rest s4 s5 end s8)))
-  opens at name (Elements-F.Many opening value (x ∷ xs) closing) ts t1 t2 rest s1 s2 (t3, s3, (t4, s4, (t5, s5, (t6, (c1, p, each), (t7, s7, s8))))) suits =
-      let begins = begins-elem n x t5 c1 p in
+      headed-whole d (layer at name (elements.Many opening value [] closing)) [] ts rest refl
+      (head-filled at name opening (opened.Whole (layer at name (elements.Many opening value [] closing))) ts t1 t2 t3 rest false s1 s2 s3
+      (value-first k.RParen value t3 t4 s4 refl (sees-kind k.RParen k.LBrace t4 (next-mark k.LBrace t4 t5 s5))) (inside-none at name opening value closing t3 t4 t5 t7 rest s4 s5 end s8))
+  opens-many d at name opening value (x ∷ xs) closing ts t1 t2 t3 t4 t5 t6 t7 rest s1 s2 s3 s4 s5 (c1, p, each) s7 s8 =
+      let begins = begins-elem n d x t5 c1 p in
       let f : Frame = frame at name opening value true in
-      headed-as at name (elements.Many opening value (x ∷ xs) closing) (roll-Elements (Elements-F.Many opening value (x ∷ xs) closing)) ts rest (sym (rolls-Many opening value (x ∷ xs) closing))
-      (record {
+      record {
         first = opened.Open f;
         mid = t5;
         is = head-filled at name opening (opened.Open f) ts t1 t2 t3 t5 false s1 s2 s3 (value-first k.RParen value t3 t4 s4 refl (sees-kind k.RParen k.LBrace t4 (next-mark k.LBrace t4 t5 s5))) (inside-many at name opening value t3 t4 t5 s4 s5 begins);
-        comes = λ outer. items-come x xs f outer closing t5 c1 t6 t7 rest refl p each s7 s8;
-      })
+        comes = λ outer ended low. items-come x xs f outer ended closing t5 c1 t6 t7 rest refl (at-depth d (suc (length outer)) x t5 c1 low p) (each-depth d (suc (length outer)) xs c1 t6 low each) s7 s8;
+      }
 
-  annot-headed : (a : Annot) (ts rest : List Token) → AnnotBy (ElemWithin n) a ts rest → Suits rest → Headed a ts rest
-  annot-headed a ts rest (t1, s1, (t2, s2, s3)) suits =
-      headed-as (out-Annot a).at (out-Annot a).name (roll-Elements (out-Elements (out-Annot a).elements)) (out-Annot a).elements ts rest (roll-out-Elements (out-Annot a).elements)
-      (opens (out-Annot a).at (out-Annot a).name (out-Elements (out-Annot a).elements) ts t1 t2 rest s1 s2 s3 suits)
+  opens : (d : ℕ) (at : Span) (name : List Lexeme) (e : Elements) (inner : List InnerAnnot) (ts t1 t2 rest : List Token) → Sign k.At at ts t1 → Qualified name t1 t2 → ElementsBy (ElemWithin n d) e inner t2 rest → Suits rest
+      → Headed d (layer at name e) inner ts rest
+  opens d at name elements.Bare inner ts t1 t2 rest s1 s2 (none, here) suits =
+      let P : List Token → Type 0 = λ l. Qualified name t1 l in
+      headed-whole d (layer at name elements.Bare) inner ts rest none (head-bare at name ts t1 rest s1 (subst P here s2) suits)
+  opens d at name (elements.Empty opening closing) inner ts t1 t2 rest s1 s2 (none, (t3, s3, s4)) suits =
+      headed-whole d (layer at name (elements.Empty opening closing)) inner ts rest none
+      (head-filled at name opening (opened.Whole (layer at name (elements.Empty opening closing))) ts t1 t2 t3 rest true s1 s2 s3 (sees-kind k.RParen k.RParen t3 (next-sign k.RParen closing t3 rest s4)) (rw (sign-complete k.RParen t3 rest closing s4) refl))
+  opens d at name (elements.One opening value elem closing) inner ts t1 t2 rest s1 s2 (t3, s3, (t4, s4, (t5, s5, s6))) suits =
+      let h : Held = record { elem = elem; inner = inner } in
+      let begins = begins-elem n d h t4 t5 s5 in
+      let f : Frame = frame at name opening value false in
+      record {
+        first = opened.Open f;
+        mid = t4;
+        is = head-filled at name opening (opened.Open f) ts t1 t2 t3 t4 false s1 s2 s3 (value-first k.RParen value t3 t4 s4 refl begins.paren) (inside-one at name opening value t3 t4 s4 begins);
+        comes = λ outer ended low. known h f outer ended (opened.Whole (one_tree f elem closing)) t4 t5 rest (at-depth d (suc (length outer)) h t4 t5 low s5)
+            (suits-kind k.RParen t5 (next-sign k.RParen closing t5 rest s6) refl refl) (placed-single f elem closing t5 rest refl s6);
+      }
+  opens d at name (elements.Many opening value elems closing) inner ts t1 t2 rest s1 s2 (t3, s3, (t4, s4, (t5, s5, (t6, (held, es, is, s6), (t7, s7, s8))))) suits =
+      let P : List Elem → Type 0 = λ l. Headed d (layer at name (elements.Many opening value l closing)) inner ts rest in
+      let R : List InnerAnnot → Type 0 = λ l. Headed d (layer at name (elements.Many opening value (elems_of held) closing)) l ts rest in
+      subst P (sym es) (subst R (sym is) (opens-many d at name opening value held closing ts t1 t2 t3 t4 t5 t6 t7 rest s1 s2 s3 s4 s5 s6 s7 s8))
 
-  by-comes : (g : Elem-F Elem Elements Annot) (f : Frame) (outer : List Frame) (o : Opened) (ts mid rest : List Token) → ElemBy (ElemWithin n) g ts mid → Suits mid → placed f (roll-Elem g) mid ≡ Found o rest
-      → Comes (nest outer (opened.Open f)) ts (nest outer o) rest
-  by-comes (Elem-F.Str text) f outer o ts mid rest s suits is =
-      let P : Elem → Type 0 = λ e. placed f e mid ≡ Found o rest in
-      comes-turn (nest outer (opened.Open f)) (nest outer o) ts rest (open-goes outer f) (turn-text outer f text o ts mid rest s (subst P (rolls-Str text) is))
-  by-comes (Elem-F.Annot a) f outer o ts mid rest s suits is =
-      let P : Elem → Type 0 = λ e. placed f e mid ≡ Found o rest in
-      let h = annot-headed a ts mid s suits in
+  annot-headed : (d : ℕ) (a : AnnotLayer) (inner : List InnerAnnot) (ts rest : List Token) → AnnotBy (ElemWithin n d) a inner ts rest → Suits rest → Headed d a inner ts rest
+  annot-headed d a inner ts rest (t1, s1, (t2, s2, s3)) suits = opens d a.at a.name a.elements inner ts t1 t2 rest s1 s2 s3 suits
+
+  by-comes : (elem : Elem) (inner : List InnerAnnot) (f : Frame) (outer : List Frame) (ended : List InnerAnnot) (o : Opened) (ts mid rest : List Token) → ElemBy (ElemWithin n (suc (suc (length outer)))) (suc (length outer)) elem inner ts mid
+      → Suits mid → placed f elem mid ≡ Found o rest → Comes (nest outer ended (opened.Open f)) ts (nest outer (ended ++ inner) o) rest
+  by-comes (element.Str text) inner f outer ended o ts mid rest (none, s) suits is =
+      let P : List InnerAnnot → Type 0 = λ l. Comes (nest outer ended (opened.Open f)) ts (nest outer l o) rest in
+      let same : ended ++ inner ≡ ended = ap (λ l. ended ++ l) none ∙ append-nil ended in
+      subst P (sym same) (comes-turn (nest outer ended (opened.Open f)) (nest outer ended o) ts rest (open-goes outer ended f) (turn-text outer ended f text o ts mid rest s is))
+  by-comes element.Annot inner f outer ended o ts mid rest (a, within, e, s) suits is =
+      let h = annot-headed (suc (suc (length outer))) a within ts mid s suits in
       let (t1, at, tail) = s in
-      comes-then (nest outer (opened.Open f)) (nest (outer ++ f ∷ []) h.first) (nest outer o) ts h.mid rest
-      (comes-turn (nest outer (opened.Open f)) (nest (outer ++ f ∷ []) h.first) ts h.mid (open-goes outer f) (turn-enter outer f h.first ts h.mid (next-sign k.At (out-Annot a).at ts t1 at) h.is))
-      (comes-then (nest (outer ++ f ∷ []) h.first) (nest (outer ++ f ∷ []) (opened.Whole a)) (nest outer o) h.mid mid rest (h.comes (outer ++ f ∷ []))
-      (comes-turn (nest (outer ++ f ∷ []) (opened.Whole a)) (nest outer o) mid rest (whole-goes outer f a) (turn-leave outer f a o mid rest (subst P (rolls-Annot a) is))))
+      let x : List InnerAnnot = inner_annot (suc (length outer)) a ∷ [] in
+      let low : suc (length (outer ++ f ∷ [])) ≡ suc (suc (length outer)) = ap suc (one-deeper outer f) in
+      let P : List InnerAnnot → Type 0 = λ l. Comes (nest outer ended (opened.Open f)) ts (nest outer l o) rest in
+      subst P (append_assoc ended within x ∙ ap (λ l. ended ++ l) (sym e))
+      (comes-then (nest outer ended (opened.Open f)) (nest (outer ++ f ∷ []) ended h.first) (nest outer ((ended ++ within) ++ x) o) ts h.mid rest
+      (comes-turn (nest outer ended (opened.Open f)) (nest (outer ++ f ∷ []) ended h.first) ts h.mid (open-goes outer ended f) (turn-enter outer ended f h.first ts h.mid (next-sign k.At a.at ts t1 at) h.is))
+      (comes-then (nest (outer ++ f ∷ []) ended h.first) (nest (outer ++ f ∷ []) (ended ++ within) (opened.Whole a)) (nest outer ((ended ++ within) ++ x) o) h.mid mid rest (h.comes (outer ++ f ∷ []) ended low)
+      (comes-turn (nest (outer ++ f ∷ []) (ended ++ within) (opened.Whole a)) (nest outer ((ended ++ within) ++ x) o) mid rest (whole-goes outer (ended ++ within) f a) (turn-leave outer (ended ++ within) f a o mid rest is))))
 
 elem-comes : (n : ℕ) → ElemComes n
 unfolding ElemWithin
-elem-comes zero e f outer o ts mid rest s suits is = absurd s
-elem-comes (suc n) e f outer o ts mid rest s suits is =
-    let P : Elem → Type 0 = λ x. placed f x mid ≡ Found o rest in
-    by-comes n (elem-comes n) (out-Elem e) f outer o ts mid rest s suits (subst P (sym (roll-out-Elem e)) is)
+elem-comes zero h f outer ended o ts mid rest s suits is = absurd s
+elem-comes (suc n) h f outer ended o ts mid rest s suits is = by-comes n (elem-comes n) h.elem h.inner f outer ended o ts mid rest s suits is
 
 -- ---- the whole
 
-annotation-by : (a : Annot) (o : Opened) (ts mid rest : List Token) → head ts ≡ Found o mid → nested (nest [] o) mid ≡ Found (nest [] (opened.Whole a)) rest → annotation ts ≡ Found a rest
+annotation-by : (a : AnnotLayer) (inner : List InnerAnnot) (o : Opened) (ts mid rest : List Token) → head ts ≡ Found o mid → nested (nest [] [] o) mid ≡ Found (nest [] inner (opened.Whole a)) rest
+    → annotation ts ≡ Found (record { layer = a; inner = inner }) rest
 unfolding annotation
-annotation-by a o ts mid rest is found = rw (is, found) refl
+annotation-by a inner o ts mid rest is found = rw (is, found) refl
 
-alone-whole : (a : Annot) → is_whole (nest [] (opened.Whole a)) ≡ true
+alone-whole : (a : AnnotLayer) (inner : List InnerAnnot) → is_whole (nest [] inner (opened.Whole a)) ≡ true
 unfolding is_whole
-alone-whole a = refl
+alone-whole a inner = refl
 
-nested-comes : (o : Opened) (a : Annot) (ts rest : List Token) → Comes (nest [] o) ts (nest [] (opened.Whole a)) rest → nested (nest [] o) ts ≡ Found (nest [] (opened.Whole a)) rest
+nested-comes : (o : Opened) (a : AnnotLayer) (inner : List InnerAnnot) (ts rest : List Token) → Comes (nest [] [] o) ts (nest [] inner (opened.Whole a)) rest → nested (nest [] [] o) ts ≡ Found (nest [] inner (opened.Whole a)) rest
 unfolding nested
-nested-comes o a ts rest comes =
+nested-comes o a inner ts rest comes =
     let (j, enough, same) = comes.go (suc (length ts)) (omega arith) in
-    same ∙ turn_ends j (nest [] (opened.Whole a)) rest enough (alone-whole a)
+    same ∙ turn_ends j (nest [] inner (opened.Whole a)) rest enough (alone-whole a inner)
 
 pub annotation-complete : (a : Annot) (ts rest : List Token) → AnnotSpells a ts rest → Suits rest → annotation ts ≡ Found a rest
 annotation-complete a ts rest (n, s) suits =
-    let h = annot-headed n (elem-comes n) a ts rest s suits in
-    annotation-by a h.first ts h.mid rest h.is (nested-comes h.first a h.mid rest (h.comes []))
+    let h = annot-headed n (elem-comes n) 1 a.layer a.inner ts rest s suits in
+    annotation-by a.layer a.inner h.first ts h.mid rest h.is (nested-comes h.first a.layer a.inner h.mid rest (h.comes [] [] refl))

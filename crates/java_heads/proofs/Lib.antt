@@ -9,3 +9,4 @@ pub mod MemberLaws
 pub mod LineLaws
 pub mod Parts
 pub mod ReaderLemmas
+pub mod HeadingLaws

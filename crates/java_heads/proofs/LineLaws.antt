@@ -11,12 +11,13 @@ use Rattle.java_tree.specs.declared.file.Package.{Package}
 use Rattle.java_tree.specs.declared.file.Import.{Import}
 use Rattle.java_tree.specs.declared.file.TypeKind.{TypeKind}
 use Rattle.java_tree.specs.declared.file.TypeKind.TheVariants as sort
-use Rattle.java_phrases.specs.Phrase.{Mark, Spelled, Each}
+use Rattle.java_phrases.specs.Phrase.{Mark, Sign, Spelled, Each, Optional}
 use Rattle.java_phrases.specs.Parser.{Found, ◌>>=◌, pure, fail, next_kind, kind_at, sees, sign, word}
 use Rattle.java_phrases.proofs.Phrases.{and_then-some, pure-is, is_same, sign-sound, sign-complete, word-sound, word-complete, next-sign, next-mark}
 use Rattle.java_heads.specs.declared.header.Header.{Header}
 use Rattle.java_heads.specs.Annotation.{Joined}
-use Rattle.java_heads.specs.Spelling.{ModSpells, Perhaps, PackageSpells, Star, ImportSpells, declared_as, type_word, Implements, IsFreeName, object_name, string_name, runnable_name, thread_name, HeaderParts}
+use Rattle.java_phrases.specs.Texts.{thread_name}
+use Rattle.java_heads.specs.Spelling.{ModSpells, PackageSpells, Star, ImportSpells, declared_as, type_word, Implements, IsFreeName, object_name, string_name, runnable_name, HeaderParts}
 use Rattle.java_heads.specs.Reading.{goes_on, qualified, all_modifiers, fits, package_line, perhaps_by, perhaps, star_by, star, import_line, type_kind_by, type_kind, is_free, type_name, some_interfaces, interfaces_by, class_interfaces, interfaces, header_of, type_header}
 use Rattle.java_heads.proofs.Lists.{spends-spelled, mark-sound, mark-complete, sees-kind, joined-sound, joined-complete}
 use Rattle.java_heads.proofs.NameLaws.{qualified-sound, qualified-complete, qualified-first, goes_off}
@@ -42,17 +43,17 @@ package-complete p ts rest (t1, s1, (t2, s2, s3)) =
 
 -- ---- import lines
 
-perhaps_by-sound : (b : Bool) (kind : Kind) (ts rest : List Token) (y : Option Span) → perhaps_by kind b ts ≡ Found y rest → Perhaps kind y ts rest
+perhaps_by-sound : (b : Bool) (kind : Kind) (ts rest : List Token) (y : Option Span) → perhaps_by kind b ts ≡ Found y rest → Optional (Sign kind) y ts rest
 perhaps_by-sound true kind ts rest y e =
     let (at, mid, is, e1) = and_then-some (sign kind ts) _ y rest e in
-    pure-is (λ y r. Perhaps kind y ts r) (Some at) y mid rest e1 (sign-sound kind ts mid at is)
-perhaps_by-sound false kind ts rest y e = pure-is (λ y r. Perhaps kind y ts r) None y ts rest e refl
+    pure-is (λ y r. Optional (Sign kind) y ts r) (Some at) y mid rest e1 (sign-sound kind ts mid at is)
+perhaps_by-sound false kind ts rest y e = pure-is (λ y r. Optional (Sign kind) y ts r) None y ts rest e refl
 
-pub perhaps-sound : (kind : Kind) (ts rest : List Token) (y : Option Span) → perhaps kind ts ≡ Found y rest → Perhaps kind y ts rest
+pub perhaps-sound : (kind : Kind) (ts rest : List Token) (y : Option Span) → perhaps kind ts ≡ Found y rest → Optional (Sign kind) y ts rest
 unfolding perhaps
 perhaps-sound kind ts rest y e = perhaps_by-sound (sees kind ts) kind ts rest y e
 
-pub perhaps-complete : (kind : Kind) (y : Option Span) (ts rest : List Token) → Perhaps kind y ts rest → sees kind rest ≡ false → perhaps kind ts ≡ Found y rest
+pub perhaps-complete : (kind : Kind) (y : Option Span) (ts rest : List Token) → Optional (Sign kind) y ts rest → sees kind rest ≡ false → perhaps kind ts ≡ Found y rest
 unfolding perhaps
 perhaps-complete kind None ts rest s off = let P : List Token → Type 0 = λ l. perhaps kind l ≡ Found None rest in subst P (sym s) (rw off refl)
 perhaps-complete kind (Some at) ts rest s off = rw (sees-kind kind kind ts (next-sign kind at ts rest s), is_same kind kind refl, sign-complete kind ts rest at s) refl

@@ -13,13 +13,14 @@ use Rattle.java_tree.specs.declared.member.Init.{Init}
 use Rattle.java_tree.specs.declared.member.Init.TheVariants as init
 use Rattle.java_tree.specs.declared.member.Field.{Field}
 use Rattle.java_tree.specs.declared.member.Sig.{Sig}
-use Rattle.java_phrases.specs.Phrase.{◌⨾◌, Mark, Sign, Spelled, word_of}
+use Rattle.java_phrases.specs.Phrase.{◌⨾◌, Mark, Sign, Spelled, word_of, Named}
 use Rattle.java_phrases.specs.Parser.{Found, and_then, pure, fail, next_kind, sees, sign, word}
 use Rattle.java_phrases.specs.Types.{ty}
 use Rattle.java_phrases.proofs.Phrases.{and_then-some, pure-is, sign-sound, sign-complete, word-sound, word-complete, next-sign, next-mark, next-word}
 use Rattle.java_phrases.proofs.TypeLaws.{ty-sound, ty-complete}
 use Rattle.java_heads.specs.declared.declaration.Declaration.TheVariants as of
-use Rattle.java_heads.specs.Spelling.{NameIs, smallest_digits, object_name, InitSpells, InitPart, FieldParts, SigParts}
+use Rattle.java_phrases.specs.Texts.{smallest_digits}
+use Rattle.java_heads.specs.Spelling.{object_name, InitSpells, InitPart, FieldParts, SigParts}
 use Rattle.java_heads.specs.Reading.{modifiers, parameters, throws, result_type, small, negative, named, new_object, initializer_by, initializer, init_by, init_part, field_end, field, signature}
 use Rattle.java_heads.proofs.Lists.{mark-sound, mark-complete, sees-kind}
 use Rattle.java_heads.proofs.ModifierLaws.{modifiers-sound, modifiers-complete}
@@ -54,10 +55,10 @@ pub named-complete : (text : List ℕ) (v : Lexeme) (ts rest : List Token) → S
 unfolding named
 named-complete text v ts rest s is = rw (word-complete k.Name ts rest v s, same_bytes v.text text is) refl
 
-pub name_is : (text : List ℕ) (v : Lexeme) (ts rest : List Token) → Spelled k.Name v ts rest → v.text ≡ text → NameIs text ts rest
-name_is text v ts rest (t, e, is, stands) same = (t, e, is, ap (λ (u : Lexeme). u.name) stands ∙ same)
+pub name_is : (text : List ℕ) (v : Lexeme) (ts rest : List Token) → Spelled k.Name v ts rest → v.text ≡ text → Named text ts rest
+name_is text v ts rest (t, e, is, stands) same = (t, e, is, ap (λ (u : Lexeme). u.text) stands ∙ same)
 
-pub is_name : (text : List ℕ) (ts rest : List Token) → NameIs text ts rest → (v : Lexeme) × (named text ts ≡ Found v rest)
+pub is_name : (text : List ℕ) (ts rest : List Token) → Named text ts rest → (v : Lexeme) × (named text ts ≡ Found v rest)
 is_name text ts rest (t, e, is, same) = (word_of t, named-complete text (word_of t) ts rest (t, e, is, refl) same)
 
 -- ---- initializers

@@ -4,7 +4,6 @@ use Rattle.std.proofs.lemmas.Bool.{leb-true, le-leb, eqb-true, eq-eqb}
 use Rattle.java_tree.specs.declared.kind.Kind.{Kind}
 use Rattle.java_tree.specs.declared.kind.Kind.TheVariants as k
 use Rattle.java_tree.specs.declared.token.Token.{Token}
-use Rattle.java_tree.specs.declared.member.Annot.{out-Annot}
 use Rattle.java_tree.specs.declared.member.Mod.{Mod}
 use Rattle.java_tree.specs.declared.member.Mod.TheVariants as modifier
 use Rattle.java_tree.specs.declared.member.ModWord.{ModWord}
@@ -62,7 +61,7 @@ spends-mod (modifier.Annot a) = spends-annot a
 spends-mod (modifier.Word word at) = spends-sign (kind_of word) at
 
 mod-shorter : (m : Mod) (ts rest : List Token) → ModSpells m ts rest → length rest < length ts
-mod-shorter (modifier.Annot a) ts rest (n, s) = annot-shorter (ElemWithin n) (spends-elem n) a ts rest s
+mod-shorter (modifier.Annot a) ts rest (n, s) = annot-shorter (ElemWithin n 1) (spends-elem n 1) a.layer a.inner ts rest s
 mod-shorter (modifier.Word word at) ts rest s = let less : length ts ≡ suc (length rest) = sign-shorter (kind_of word) ts rest at s in omega arith
 
 pub also_modifier-shorter : (found y : List Mod) (ts rest : List Token) → also one_modifier found ts ≡ Found y rest → length rest < length ts
@@ -91,13 +90,13 @@ leads-word word ts e =
     }
 
 mod-leads : (m : Mod) (ts rest : List Token) → ModSpells m ts rest → Leads ts
-mod-leads (modifier.Annot a) ts rest (n, (mid, s, tail)) = leads-at ts (next-sign k.At (out-Annot a).at ts mid s)
+mod-leads (modifier.Annot a) ts rest (n, (mid, s, tail)) = leads-at ts (next-sign k.At a.layer.at ts mid s)
 mod-leads (modifier.Word word at) ts rest s = leads-word word ts (next-sign (kind_of word) at ts rest s)
 
 mod-complete : (m : Mod) (ts rest : List Token) → ModSpells m ts rest → Suits rest → one_modifier ts ≡ Found m rest
 unfolding one_modifier next_word
 mod-complete (modifier.Annot a) ts rest (n, (mid, s, tail)) suits =
-    rw (sees-kind k.At k.At ts (next-sign k.At (out-Annot a).at ts mid s), annotation-complete a ts rest (n, (mid, s, tail)) suits) refl
+    rw (sees-kind k.At k.At ts (next-sign k.At a.layer.at ts mid s), annotation-complete a ts rest (n, (mid, s, tail)) suits) refl
 mod-complete (modifier.Word word at) ts rest s suits =
     let kinds = word-kind word in
     let e = next-sign (kind_of word) at ts rest s in

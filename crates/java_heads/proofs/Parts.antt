@@ -8,7 +8,8 @@ use Rattle.java_phrases.specs.declared.error.SyntaxError.TheVariants as error
 use Rattle.java_phrases.specs.declared.tokens.Tokens.{Tokens}
 use Rattle.java_phrases.specs.Cursor.{ahead, from_start, Steps}
 use Rattle.java_phrases.specs.Parser.{Found, Lost, Parser}
-use Rattle.java_heads.specs.Answers.{Gives, Takes}
+use Rattle.java_phrases.specs.Answers.{Gives}
+use Rattle.java_heads.specs.Answers.{ReadsKept}
 
 -- The phrase and its reader leave the tokens out.
 pub record IsPart {A : Type 0} (P : A → Phrase) (p : Parser A) (tokens_of : A → List Token) (with_tokens : List Token → A → A) : Type 0 where
@@ -42,7 +43,7 @@ ahead-same a b same = ap reverse same
 
 pub takes : {A : Type 0} (p : Parser A) (with_tokens : List Token → A → A) (old before end new : Tokens) (bare x : A) (tokens : List Token)
     → before.stack ≡ old.stack → before.taken ≡ [] → p (ahead before) ≡ Found bare (ahead end) → from_start end ≡ from_start before → new.stack ≡ end.stack → tokens ≡ end.taken → x ≡ with_tokens tokens bare
-    → Takes p with_tokens (ahead old) (Ok x) (ahead new)
+    → ReadsKept p with_tokens (ahead old) (Ok x) (ahead new)
 takes {A} p with_tokens old before end new bare x tokens same none e moved after kept is =
     let a : ahead before ≡ ahead old = ahead-same before old same in
     let b : ahead new ≡ ahead end = ahead-same new end after in
@@ -53,13 +54,13 @@ pub loses : {A : Type 0} (p : Parser A) (old before : Tokens) → before.stack �
 loses p old before same e = ap p (sym (ahead-same before old same)) ∙ e
 
 module _ {A : Type 0} (P : A → Phrase) (p : Parser A) (tokens_of : A → List Token) (with_tokens : List Token → A → A) (part : IsPart P p tokens_of with_tokens) where
-  pub takes-found : (ts rest : List Token) (r : Result A SyntaxError) → Takes p with_tokens ts r rest → IfOk r (λ x. P x ts rest × (ts ≡ tokens_of x ++ rest))
+  pub takes-found : (ts rest : List Token) (r : Result A SyntaxError) → ReadsKept p with_tokens ts r rest → IfOk r (λ x. P x ts rest × (ts ≡ tokens_of x ++ rest))
   takes-found ts rest (Ok x) (bare, tokens, e, is, kept) =
       let Q : A → Type 0 = λ z. P z ts rest × (ts ≡ tokens_of z ++ rest) in
       subst Q (sym is) (part-found P p tokens_of with_tokens part ts rest tokens bare e kept)
   takes-found ts rest (Err e) reads = tt
 
-  pub takes-only : (ts after : List Token) (r : Result A SyntaxError) → Takes p with_tokens ts r after → (y : A) (rest : List Token) → P y ts rest × (ts ≡ tokens_of y ++ rest) → Gives r after y rest
+  pub takes-only : (ts after : List Token) (r : Result A SyntaxError) → ReadsKept p with_tokens ts r after → (y : A) (rest : List Token) → P y ts rest × (ts ≡ tokens_of y ++ rest) → Gives r after y rest
   takes-only ts after (Ok x) (bare, tokens, e, is, kept) y rest (s, of_y) =
       let (same, ends) = part-only P p tokens_of with_tokens part ts after tokens bare e kept y rest s of_y in
       (is ∙ same, ends)

@@ -13,7 +13,8 @@ use Rattle.java_phrases.proofs.Phrases.{and_then-some, pure-is}
 use Rattle.java_heads.specs.declared.header.Header.{Header}
 use Rattle.java_heads.specs.Spelling.{FieldParts, SigParts, HeaderParts, HeaderSpells}
 use Rattle.java_heads.specs.Reading.{field, signature, type_header, brace}
-use Rattle.java_heads.specs.Answers.{Gives, TakesHeader, field_with, sig_with, header_with}
+use Rattle.java_phrases.specs.Answers.{Gives}
+use Rattle.java_heads.specs.Answers.{ReadsHeader, field_with, sig_with, header_with}
 use Rattle.java_heads.proofs.Lists.{mark-sound, mark-complete}
 use Rattle.java_heads.proofs.MemberLaws.{field-sound, field-complete, signature-sound, signature-complete}
 use Rattle.java_heads.proofs.LineLaws.{header-sound, header-complete}
@@ -61,7 +62,7 @@ braced h ts mid rest e f = rw (e, f) refl
 header-is : (h : Header) (ts mid rest : List Token) → HeaderParts h ts mid → Mark k.LBrace mid rest → type_header ts ≡ Found (header_with [] h) mid
 header-is h ts mid rest s end = header-complete h ts mid rest s end
 
-pub found_header : (ts rest : List Token) (r : Result Header SyntaxError) → TakesHeader ts r rest → IfOk r (λ h. HeaderSpells h ts rest)
+pub found_header : (ts rest : List Token) (r : Result Header SyntaxError) → ReadsHeader ts r rest → IfOk r (λ h. HeaderSpells h ts rest)
 found_header ts rest (Ok h) (mid, (bare, tokens, e, is, kept), f) =
     let P : Header → Type 0 = λ g. HeaderSpells g ts rest in
     subst P (sym is) (mid, (header-sound ts mid bare e, sym kept), brace-sound mid rest tt f)
@@ -77,7 +78,7 @@ same_header x y ts mid other after rest tokens e kept f s of_y end =
     let last : Found tt after ≡ Found tt rest = sym f ∙ ap brace ends ∙ brace-complete other rest end in
     (ap (header_with tokens) tree ∙ ap (λ l. header_with l y) taken, cc)
 
-pub only_header : (ts after : List Token) (r : Result Header SyntaxError) → TakesHeader ts r after → (h : Header) (rest : List Token) → HeaderSpells h ts rest → Gives r after h rest
+pub only_header : (ts after : List Token) (r : Result Header SyntaxError) → ReadsHeader ts r after → (h : Header) (rest : List Token) → HeaderSpells h ts rest → Gives r after h rest
 only_header ts after (Ok x) (mid, (bare, tokens, e, is, kept), f) h rest (other, (s, of_h), end) =
     let (same, ends) = same_header bare h ts mid other after rest tokens e kept f s of_h end in
     (is ∙ same, ends)

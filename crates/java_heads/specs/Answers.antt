@@ -9,11 +9,6 @@ use Rattle.java_phrases.specs.Parser.{Found, Lost, Parser, ◌>>◌}
 use Rattle.java_heads.specs.declared.header.Header.{Header}
 use Rattle.java_heads.specs.Reading.{type_header, brace}
 
--- this tree with these tokens after it, unless memory ran out
-abbrev pub Gives : {A : Type 0} → Result A SyntaxError → List Token → A → List Token → Type 0
-Gives (Ok found) after x rest = (found ≡ x) × (after ≡ rest)
-Gives (Err why) after x rest = why ≡ error.OutOfMemory
-
 -- ---- where a tree keeps its tokens
 
 abbrev pub field_with : List Token → Field → Field
@@ -31,11 +26,11 @@ Reads p ts (Ok x) rest = p ts ≡ Found x rest
 Reads p ts (Err e) rest = e ≢ error.OutOfMemory → p ts ≡ Lost
 
 -- the same, with the tokens that the parser took put into the tree
-abbrev pub Takes : {A : Type 0} → Parser A → (List Token → A → A) → List Token → Result A SyntaxError → List Token → Type 0
-Takes {A} p with_tokens ts (Ok x) rest = (bare : A) × (tokens : List Token) × (p ts ≡ Found bare rest) × (x ≡ with_tokens tokens bare) × (tokens ++ rest ≡ ts)
-Takes {A} p with_tokens ts (Err e) rest = e ≢ error.OutOfMemory → p ts ≡ Lost
+abbrev pub ReadsKept : {A : Type 0} → Parser A → (List Token → A → A) → List Token → Result A SyntaxError → List Token → Type 0
+ReadsKept {A} p with_tokens ts (Ok x) rest = (bare : A) × (tokens : List Token) × (p ts ≡ Found bare rest) × (x ≡ with_tokens tokens bare) × (tokens ++ rest ≡ ts)
+ReadsKept {A} p with_tokens ts (Err e) rest = e ≢ error.OutOfMemory → p ts ≡ Lost
 
 -- a header, whose brace isn't among its tokens
-abbrev pub TakesHeader : List Token → Result Header SyntaxError → List Token → Type 0
-TakesHeader ts (Ok h) rest = (mid : List Token) × Takes type_header header_with ts (Ok h) mid × (brace mid ≡ Found tt rest)
-TakesHeader ts (Err e) rest = e ≢ error.OutOfMemory → (type_header >> brace) ts ≡ Lost
+abbrev pub ReadsHeader : List Token → Result Header SyntaxError → List Token → Type 0
+ReadsHeader ts (Ok h) rest = (mid : List Token) × ReadsKept type_header header_with ts (Ok h) mid × (brace mid ≡ Found tt rest)
+ReadsHeader ts (Err e) rest = e ≢ error.OutOfMemory → (type_header >> brace) ts ≡ Lost

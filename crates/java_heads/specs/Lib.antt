@@ -4,3 +4,5 @@ pub mod Annotation
 pub mod Reading
 pub mod Answers
 pub mod Laws
+pub mod Headings
+pub mod HeadingReading

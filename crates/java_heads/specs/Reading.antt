@@ -7,7 +7,9 @@ use Rattle.java_tree.specs.declared.kind.Kind.{Kind}
 use Rattle.java_tree.specs.declared.kind.Kind.TheVariants as k
 use Rattle.java_tree.specs.declared.token.Token.{Token}
 use Rattle.java_tree.specs.declared.token.Lexeme.{Lexeme}
-use Rattle.java_tree.specs.declared.member.Annot.{Annot, roll-Annot}
+use Rattle.java_tree.specs.declared.member.Annot.{Annot}
+use Rattle.java_tree.specs.declared.member.AnnotLayer.{AnnotLayer}
+use Rattle.java_tree.specs.declared.member.InnerAnnot.{InnerAnnot}
 use Rattle.java_tree.specs.declared.member.Elements.{Elements}
 use Rattle.java_tree.specs.declared.member.Elements.TheVariants as elements
 use Rattle.java_tree.specs.declared.member.Elem.{Elem}
@@ -36,8 +38,9 @@ use Rattle.java_heads.specs.declared.nest.Opened.{Opened}
 use Rattle.java_heads.specs.declared.nest.Opened.TheVariants as opened
 use Rattle.java_heads.specs.declared.nest.Nest.{Nest}
 use Rattle.java_heads.specs.Modifiers.{may_have, must_have, same_word, is_access, words_that, kind_of}
-use Rattle.java_heads.specs.Annotation.{value_name}
-use Rattle.java_heads.specs.Spelling.{smallest_digits, object_name, string_name, runnable_name, thread_name, declared_as}
+use Rattle.java_heads.specs.Annotation.{value_name, inner_annot}
+use Rattle.java_phrases.specs.Texts.{smallest_digits, thread_name}
+use Rattle.java_heads.specs.Spelling.{object_name, string_name, runnable_name, declared_as}
 
 -- ---- lists
 
@@ -90,14 +93,14 @@ abbrev pub with_elem : Frame → Elem → Frame
 with_elem f elem =
     record { at = f.at; name = f.name; opening = f.opening; value = f.value; in_braces = f.in_braces; elems = f.elems ++ elem ∷ [] }
 
-abbrev pub annot : Span → List Lexeme → Elements → Annot
-annot at name elements = roll-Annot (record { at = at; name = name; elements = elements })
+abbrev pub layer : Span → List Lexeme → Elements → AnnotLayer
+layer at name elements = record { at = at; name = name; elements = elements }
 
-abbrev pub one_tree : Frame → Elem → Span → Annot
-one_tree f elem closing = annot f.at f.name (elements.One f.opening f.value elem closing)
+abbrev pub one_tree : Frame → Elem → Span → AnnotLayer
+one_tree f elem closing = layer f.at f.name (elements.One f.opening f.value elem closing)
 
-abbrev pub many_tree : Frame → Span → Annot
-many_tree f closing = annot f.at f.name (elements.Many f.opening f.value f.elems closing)
+abbrev pub many_tree : Frame → Span → AnnotLayer
+many_tree f closing = layer f.at f.name (elements.Many f.opening f.value f.elems closing)
 
 -- the end of a list in braces
 unfoldable pub closed : Frame → Parser Opened
@@ -127,7 +130,7 @@ inside at name opening = do
 abbrev pub filled_by : Span → List Lexeme → Span → Bool → Parser Opened
 filled_by at name opening true = do
   closing ← sign k.RParen
-  pure (opened.Whole (annot at name (elements.Empty opening closing)))
+  pure (opened.Whole (layer at name (elements.Empty opening closing)))
 filled_by at name opening false = inside at name opening
 
 unfoldable pub parenthesized : Span → List Lexeme → Parser Opened
@@ -138,7 +141,7 @@ parenthesized at name = do
 
 abbrev pub head_by : Span → List Lexeme → Bool → Parser Opened
 head_by at name true = parenthesized at name
-head_by at name false = pure (opened.Whole (annot at name elements.Bare))
+head_by at name false = pure (opened.Whole (layer at name elements.Bare))
 
 -- an annotation up to its first element
 unfoldable pub head : Parser Opened
@@ -164,40 +167,45 @@ placed_by f elem false = do
 unfoldable pub placed : Frame → Elem → Parser Opened
 placed f elem = placed_by f elem f.in_braces
 
-abbrev pub nest : List Frame → Opened → Nest
-nest outer inner = record { outer = outer; inner = inner }
-
--- a whole annotation is an element of the one round it
-abbrev pub surrounded_by : List Frame → Annot → Parser Nest
-surrounded_by [] a = fail
-surrounded_by (f ∷ outer) a = do
-  inner ← placed f (element.Annot a)
-  pure (nest (reverse outer) inner)
-
-unfoldable pub surrounded : List Frame → Annot → Parser Nest
-surrounded outer a = surrounded_by (reverse outer) a
-
-abbrev pub entered_by : List Frame → Frame → Bool → Parser Nest
-entered_by outer f true = do
+-- a string that is placed as an element
+unfoldable pub text_placed : Frame → Parser Opened
+text_placed f = do
   text ← word k.StrLiteral
-  inner ← placed f (element.Str text)
-  pure (nest outer inner)
-entered_by outer f false = do
-  inner ← head
-  pure (nest (outer ++ f ∷ []) inner)
+  placed f (element.Str text)
+
+abbrev pub nest : List Frame → List InnerAnnot → Opened → Nest
+nest outer ended last = record { outer = outer; ended = ended; last = last }
+
+-- a whole annotation, which stands in so many, is an element of the one round it
+abbrev pub surrounded_by : ℕ → List Frame → List InnerAnnot → AnnotLayer → Parser Nest
+surrounded_by depth [] ended a = fail
+surrounded_by depth (f ∷ outer) ended a = do
+  last ← placed f element.Annot
+  pure (nest (reverse outer) (ended ++ inner_annot depth a ∷ []) last)
+
+unfoldable pub surrounded : List Frame → List InnerAnnot → AnnotLayer → Parser Nest
+surrounded outer ended a = surrounded_by (length outer) (reverse outer) ended a
+
+abbrev pub entered_by : List Frame → List InnerAnnot → Frame → Bool → Parser Nest
+entered_by outer ended f true = do
+  last ← text_placed f
+  pure (nest outer ended last)
+entered_by outer ended f false = do
+  last ← head
+  pure (nest (outer ++ f ∷ []) ended last)
 
 -- the next element of an open annotation
-unfoldable pub entered : List Frame → Frame → Parser Nest
-entered outer f = do
+unfoldable pub entered : List Frame → List InnerAnnot → Frame → Parser Nest
+entered outer ended f = do
   text ← look k.StrLiteral
-  entered_by outer f text
+  entered_by outer ended f text
 
-abbrev pub turn_by : List Frame → Opened → Parser Nest
-turn_by outer (opened.Whole a) = surrounded outer a
-turn_by outer (opened.Open f) = entered outer f
+abbrev pub turn_by : List Frame → List InnerAnnot → Opened → Parser Nest
+turn_by outer ended (opened.Whole a) = surrounded outer ended a
+turn_by outer ended (opened.Open f) = entered outer ended f
 
 unfoldable pub turn : Nest → Parser Nest
-turn n = turn_by n.outer n.inner
+turn n = turn_by n.outer n.ended n.last
 
 abbrev pub none_outside : List Frame → Bool
 none_outside [] = true
@@ -208,7 +216,7 @@ whole_by outer (opened.Whole a) = none_outside outer
 whole_by outer (opened.Open f) = false
 
 unfoldable pub is_whole : Nest → Bool
-is_whole n = whole_by n.outer n.inner
+is_whole n = whole_by n.outer n.last
 
 unfoldable pub nested_from : ℕ → Nest → Parser Nest
 nested_from zero n ts = Lost
@@ -218,15 +226,15 @@ nested_from (suc left) n ts = if is_whole n then Found n ts else (turn n >>= nes
 unfoldable pub nested : Nest → Parser Nest
 nested n ts = nested_from (suc (length ts)) n ts
 
-abbrev pub annot_of : Opened → Parser Annot
-annot_of (opened.Whole a) = pure a
-annot_of (opened.Open f) = fail
+abbrev pub annot_of : List InnerAnnot → Opened → Parser Annot
+annot_of ended (opened.Whole a) = pure (record { layer = a; inner = ended })
+annot_of ended (opened.Open f) = fail
 
 unfoldable pub annotation : Parser Annot
 annotation = do
   first ← head
-  n ← nested (nest [] first)
-  annot_of n.inner
+  n ← nested (nest [] [] first)
+  annot_of n.ended n.last
 
 -- ---- modifiers
 

@@ -18,7 +18,8 @@ use Rattle.java_tree.specs.declared.file.Package.{Package}
 use Rattle.java_tree.specs.declared.file.Import.{Import}
 use Rattle.java_tree.specs.declared.file.TypeKind.{TypeKind}
 use Rattle.java_tree.specs.declared.file.TypeKind.TheVariants as sort
-use Rattle.java_phrases.specs.Phrase.{Phrase, Nothing, ◌⨾◌, ◌⊢◌, Never, Mark, Sign, Spelled, Separated, Each}
+use Rattle.java_phrases.specs.Phrase.{Phrase, Nothing, ◌⨾◌, ◌⊢◌, Never, Mark, Sign, Spelled, Named, Optional, Separated, Each}
+use Rattle.java_phrases.specs.Texts.{smallest_digits, thread_name}
 use Rattle.java_phrases.specs.Types.{TySpells}
 use Rattle.java_heads.specs.declared.declaration.Declaration.{Declaration}
 use Rattle.java_heads.specs.declared.declaration.Declaration.TheVariants as of
@@ -29,15 +30,6 @@ use Rattle.java_heads.specs.Annotation.{Joined, Qualified, AnnotSpells}
 -- a phrase whose tokens are these
 abbrev pub Kept : List Token → Phrase → Phrase
 Kept tokens P ts rest = P ts rest × (ts ≡ tokens ++ rest)
-
--- a name that is written so
-abbrev pub NameIs : List ℕ → Phrase
-NameIs name ts rest = (t : Token) × (ts ≡ t ∷ rest) × (t.kind ≡ k.Name) × (t.bytes ≡ name)
-
--- [sign]
-abbrev pub Perhaps : Kind → Option Span → Phrase
-Perhaps kind None = Nothing
-Perhaps kind (Some at) = Sign kind at
 
 -- ---- modifiers
 
@@ -72,10 +64,6 @@ ResultSpells (Some ty) = TySpells ty
 
 -- ---- members without a body
 
--- the number that is written only behind a minus
-abbrev pub smallest_digits : List ℕ
-smallest_digits = codes "2147483648"
-
 abbrev pub object_name : List ℕ
 object_name = codes "Object"
 
@@ -87,7 +75,7 @@ InitSpells (init.True at) = Sign k.True at
 InitSpells (init.False at) = Sign k.False at
 InitSpells (init.Null at) = Sign k.Null at
 InitSpells (init.Str word) = Spelled k.StrLiteral word
-InitSpells (init.NewObject at) = Sign k.New at ⨾ NameIs object_name ⨾ Mark k.LParen ⨾ Mark k.RParen
+InitSpells (init.NewObject at) = Sign k.New at ⨾ Named object_name ⨾ Mark k.LParen ⨾ Mark k.RParen
 
 -- ["=" Init]
 abbrev pub InitPart : Option Init → Phrase
@@ -121,7 +109,7 @@ Star (Some at) = Mark k.Dot ⨾ Sign k.Times at
 
 -- Import = "import" ["static"] Qname ["." "*"] ";"
 abbrev pub ImportSpells : Import → Phrase
-ImportSpells i = Mark k.Import ⨾ Perhaps k.Static i.static_word ⨾ Qualified i.name ⨾ Star i.star ⨾ Mark k.Semicolon
+ImportSpells i = Mark k.Import ⨾ Optional (Sign k.Static) i.static_word ⨾ Qualified i.name ⨾ Star i.star ⨾ Mark k.Semicolon
 
 abbrev pub declared_as : TypeKind → Declaration
 declared_as sort.Class = of.Class
@@ -142,9 +130,6 @@ string_name = codes "String"
 
 abbrev pub runnable_name : List ℕ
 runnable_name = codes "Runnable"
-
-abbrev pub thread_name : List ℕ
-thread_name = codes "Thread"
 
 -- A declared type isn't named like one of the library.
 pub record IsFreeName (name : List ℕ) : Type 0 where

@@ -1,15 +1,16 @@
-//! Annotations. They nest without a limit, so those that are open are kept in a list.
+//! Annotations. They nest without a limit, so those that are open are kept in a list, and those that
+//! have ended in another.
 
 ghost use Rattle.std.specs.Prelude.{◌≡◌, [], ◌∷◌, ◌++◌, reverse, IfOk, IfErr};
 ghost use Rattle.java_phrases.specs.Cursor.{Steps};
+ghost use Rattle.java_heads.specs.Annotation.{inner_annot};
 ghost use Rattle.java_heads.specs.Reading as spec;
 
 use crate::names::read_qualified;
 use crate::nest::{Frame, Nest, Opened};
-use desk_base::Span;
+use desk_base::{Items, Span};
 use java_phrases::{SyntaxError, Tokens};
-use java_tree::{Annot, Elem, Elements, Kind, Lexeme};
-use sqlite_items::{Boxed, Items};
+use java_tree::{Annot, AnnotLayer, Elem, Elements, InnerAnnot, Kind, Lexeme};
 use std::alloc::Global;
 
 /// The word `value` and its `=`, if a name stands next.
@@ -35,7 +36,7 @@ fn closed(tokens: &mut Tokens, frame: Frame) -> Result<Opened, SyntaxError>
 {
     tokens.sign(Kind::RBrace)?;
     let closing = tokens.sign(Kind::RParen)?;
-    Ok(Opened::Whole(Annot {
+    Ok(Opened::Whole(AnnotLayer {
         at: frame.at,
         name: frame.name,
         elements: Elements::Many(frame.opening, frame.value, frame.elems, closing),
@@ -86,7 +87,7 @@ fn parenthesized(
     let opening = tokens.sign(Kind::LParen)?;
     if tokens.sees(Kind::RParen) {
         let closing = tokens.sign(Kind::RParen)?;
-        Ok(Opened::Whole(Annot {
+        Ok(Opened::Whole(AnnotLayer {
             at,
             name,
             elements: Elements::Empty(opening, closing),
@@ -106,7 +107,7 @@ fn head(alloc: Global, tokens: &mut Tokens) -> Result<Opened, SyntaxError>
     if tokens.sees(Kind::LParen) {
         parenthesized(alloc, tokens, at, name)
     } else {
-        Ok(Opened::Whole(Annot {
+        Ok(Opened::Whole(AnnotLayer {
             at,
             name,
             elements: Elements::Bare,
@@ -123,31 +124,24 @@ fn with_elem(frame: Frame, elem: Elem) -> Result<Frame, SyntaxError>
     Ok(frame)
 }
 
-fn one_tree(alloc: Global, frame: Frame, elem: Elem, closing: Span) -> Result<Annot, SyntaxError>
-    ensures made { IfOk result (λ made. made ≡ spec.one_tree frame elem closing) }
-    ensures memory { IfErr result (λ e. e ≡ SyntaxError.OutOfMemory) }
+fn one_tree(frame: Frame, elem: Elem, closing: Span) -> AnnotLayer
+    ensures { result ≡ spec.one_tree frame elem closing }
 {
-    let elem = Boxed::new(alloc, elem)?;
-    Ok(Annot {
+    AnnotLayer {
         at: frame.at,
         name: frame.name,
         elements: Elements::One(frame.opening, frame.value, elem, closing),
-    })
+    }
 }
 
 /// What stands behind an element.
 #[tactic(auto, unfolding(crate::specs::Reading::placed))]
-fn placed(
-    alloc: Global,
-    tokens: &mut Tokens,
-    frame: Frame,
-    elem: Elem,
-) -> Result<Opened, SyntaxError>
+fn placed(tokens: &mut Tokens, frame: Frame, elem: Elem) -> Result<Opened, SyntaxError>
     ensures { Steps (spec.placed frame elem) tokens.old result tokens.new }
 {
     if !frame.in_braces {
         let closing = tokens.sign(Kind::RParen)?;
-        return Ok(Opened::Whole(one_tree(alloc, frame, elem, closing)?));
+        return Ok(Opened::Whole(one_tree(frame, elem, closing)));
     }
     let frame = with_elem(frame, elem)?;
     if tokens.sees(Kind::Comma) {
@@ -158,30 +152,50 @@ fn placed(
     }
 }
 
+/// One more annotation that has ended, which stands in so many others.
+fn with_inner(
+    ended: Items<InnerAnnot>,
+    depth: usize,
+    layer: AnnotLayer,
+) -> Result<Items<InnerAnnot>, SyntaxError>
+    ensures made { IfOk result (λ made. made ≡ ended ++ inner_annot depth layer ∷ []) }
+    ensures memory { IfErr result (λ e. e ≡ SyntaxError.OutOfMemory) }
+{
+    let mut ended = ended;
+    ended.push(InnerAnnot { depth, layer })?;
+    Ok(ended)
+}
+
 /// A whole annotation is an element of the one round it.
 #[tactic(auto, unfolding(crate::specs::Reading::surrounded))]
 fn surrounded(
-    alloc: Global,
     tokens: &mut Tokens,
     outer: Items<Frame>,
-    annot: Annot,
+    ended: Items<InnerAnnot>,
+    layer: AnnotLayer,
 ) -> Result<Nest, SyntaxError>
-    ensures { Steps (spec.surrounded outer annot) tokens.old result tokens.new }
+    ensures { Steps (spec.surrounded outer ended layer) tokens.old result tokens.new }
 {
     let mut outer = outer;
+    let depth = outer.len();
     match outer.pop() {
         None => Err(SyntaxError::NotSpelled),
         Some(frame) => {
-            let elem = Elem::Annot(Boxed::new(alloc, annot)?);
-            let inner = placed(alloc, tokens, frame, elem)?;
-            Ok(Nest { outer, inner })
+            let ended = with_inner(ended, depth, layer)?;
+            let last = placed(tokens, frame, Elem::Annot)?;
+            Ok(Nest { outer, ended, last })
         }
     }
 }
 
-/// How many annotations may stand round another one. They are read without recursion, but a tree is
-/// dropped by one, so a deeper nest is answered as want of memory.
-const NEST_LIMIT: usize = 1024;
+/// The string that is the next element of an open annotation.
+#[tactic(auto, unfolding(crate::specs::Reading::text_placed))]
+fn text_placed(alloc: Global, tokens: &mut Tokens, frame: Frame) -> Result<Opened, SyntaxError>
+    ensures { Steps (spec.text_placed frame) tokens.old result tokens.new }
+{
+    let text = tokens.word(alloc, Kind::StrLiteral)?;
+    placed(tokens, frame, Elem::Str(text))
+}
 
 /// The next element of an open annotation.
 #[tactic(auto, unfolding(crate::specs::Reading::entered))]
@@ -189,33 +203,29 @@ fn entered(
     alloc: Global,
     tokens: &mut Tokens,
     outer: Items<Frame>,
+    ended: Items<InnerAnnot>,
     frame: Frame,
 ) -> Result<Nest, SyntaxError>
-    ensures { Steps (spec.entered outer frame) tokens.old result tokens.new }
+    ensures { Steps (spec.entered outer ended frame) tokens.old result tokens.new }
 {
     let mut outer = outer;
-    if tokens.sees(Kind::StrLiteral) {
-        let text = tokens.word(alloc, Kind::StrLiteral)?;
-        let inner = placed(alloc, tokens, frame, Elem::Str(text))?;
-        Ok(Nest { outer, inner })
+    let last = if tokens.sees(Kind::StrLiteral) {
+        text_placed(alloc, tokens, frame)?
     } else {
-        if outer.len() >= NEST_LIMIT {
-            return Err(SyntaxError::OutOfMemory);
-        }
         outer.push(frame)?;
-        let inner = head(alloc, tokens)?;
-        Ok(Nest { outer, inner })
-    }
+        head(alloc, tokens)?
+    };
+    Ok(Nest { outer, ended, last })
 }
 
 #[tactic(auto, unfolding(crate::specs::Reading::turn))]
 fn turn(alloc: Global, tokens: &mut Tokens, nest: Nest) -> Result<Nest, SyntaxError>
     ensures { Steps (spec.turn nest) tokens.old result tokens.new }
 {
-    let Nest { outer, inner } = nest;
-    match inner {
-        Opened::Whole(annot) => surrounded(alloc, tokens, outer, annot),
-        Opened::Open(frame) => entered(alloc, tokens, outer, frame),
+    let Nest { outer, ended, last } = nest;
+    match last {
+        Opened::Whole(layer) => surrounded(tokens, outer, ended, layer),
+        Opened::Open(frame) => entered(alloc, tokens, outer, ended, frame),
     }
 }
 
@@ -223,7 +233,7 @@ fn turn(alloc: Global, tokens: &mut Tokens, nest: Nest) -> Result<Nest, SyntaxEr
 fn is_whole(nest: &Nest) -> bool
     ensures { result ≡ spec.is_whole nest.now }
 {
-    match &nest.inner {
+    match &nest.last {
         Opened::Whole(_) => nest.outer.is_empty(),
         Opened::Open(_) => false,
     }
@@ -244,12 +254,20 @@ fn nested(alloc: Global, tokens: &mut Tokens, nest: Nest) -> Result<Nest, Syntax
 pub(crate) fn annotation(alloc: Global, tokens: &mut Tokens) -> Result<Annot, SyntaxError>
     ensures { Steps spec.annotation tokens.old result tokens.new }
 {
-    let inner = head(alloc, tokens)?;
+    let last = head(alloc, tokens)?;
     let outer = Items::new(alloc);
-    let nest = nested(alloc, tokens, Nest { outer, inner })?;
-    let Nest { outer: _, inner } = nest;
-    match inner {
-        Opened::Whole(annot) => Ok(annot),
+    let ended = Items::new(alloc);
+    let nest = nested(alloc, tokens, Nest { outer, ended, last })?;
+    let Nest {
+        outer: _,
+        ended,
+        last,
+    } = nest;
+    match last {
+        Opened::Whole(layer) => Ok(Annot {
+            layer,
+            inner: ended,
+        }),
         Opened::Open(_) => Err(SyntaxError::NotSpelled),
     }
 }

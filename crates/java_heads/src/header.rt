@@ -10,9 +10,9 @@ ghost use Rattle.java_heads.specs.Reading as spec;
 use crate::declaration::Declaration;
 use crate::modifiers::{modifiers_fit, read_all_modifiers};
 use crate::names::name_after;
+use desk_base::Items;
 use java_phrases::{SyntaxError, Tokens};
 use java_tree::{Kind, Lexeme, Mod, Token, TypeKind};
-use sqlite_items::Items;
 use std::alloc::Global;
 
 /// What stands before the members of a class or an interface. Its tokens are those before the `{`.

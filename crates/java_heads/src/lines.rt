@@ -22,7 +22,7 @@ pub(crate) fn package_line(alloc: Global, tokens: &mut Tokens) -> Result<Package
 
 /// Reads a sign or word of this kind, if it stands next.
 #[tactic(auto, unfolding(crate::specs::Reading::perhaps))]
-pub fn read_perhaps(tokens: &mut Tokens, kind: Kind) -> Result<Option<Span>, SyntaxError>
+pub(crate) fn read_perhaps(tokens: &mut Tokens, kind: Kind) -> Result<Option<Span>, SyntaxError>
     ensures { Steps (spec.perhaps kind) tokens.old result tokens.new }
 {
     if tokens.sees(kind) {

@@ -7,9 +7,9 @@ ghost use Rattle.java_heads.specs.Reading as spec;
 use crate::declaration::Declaration;
 use crate::modifiers::read_modifiers;
 use crate::parameters::{read_parameters, read_result, read_throws};
+use desk_base::Items;
 use java_phrases::{SyntaxError, Tokens, read_type};
 use java_tree::{Field, Init, Kind, Lexeme, Mod, Sig, Ty};
-use sqlite_items::Items;
 use std::alloc::Global;
 
 #[tactic(auto, unfolding(crate::specs::Reading::small))]
@@ -34,7 +34,11 @@ fn negative(alloc: Global, tokens: &mut Tokens) -> Result<Init, SyntaxError>
 
 /// Reads a name that is written so.
 #[tactic(auto, unfolding(crate::specs::Reading::named))]
-pub fn read_named(alloc: Global, tokens: &mut Tokens, text: &[u8]) -> Result<Lexeme, SyntaxError>
+pub(crate) fn read_named(
+    alloc: Global,
+    tokens: &mut Tokens,
+    text: &[u8],
+) -> Result<Lexeme, SyntaxError>
     ensures { Steps (spec.named text.now) tokens.old result tokens.new }
 {
     let name = tokens.word(alloc, Kind::Name)?;
@@ -84,7 +88,7 @@ fn init_part(alloc: Global, tokens: &mut Tokens) -> Result<Option<Init>, SyntaxE
 
 /// Reads what stands behind a field's name. The tokens of the field are still to be kept.
 #[tactic(auto, unfolding(crate::specs::Reading::field_end))]
-pub fn read_field_end(
+pub(crate) fn read_field_end(
     alloc: Global,
     tokens: &mut Tokens,
     mods: Items<Mod>,

@@ -8,9 +8,9 @@ ghost use Rattle.java_heads.specs.Reading as spec;
 
 use crate::annotation::annotation;
 use crate::declaration::Declaration;
+use desk_base::Items;
 use java_phrases::{SyntaxError, Tokens};
 use java_tree::{Kind, Mod, ModWord};
-use sqlite_items::Items;
 use std::alloc::Global;
 
 fn kind_of(word: ModWord) -> Kind
@@ -95,7 +95,10 @@ fn more_modifiers(
 
 /// Reads modifiers up to what none begins with, whichever words they are.
 #[tactic(auto, unfolding(crate::specs::Reading::all_modifiers))]
-pub fn read_all_modifiers(alloc: Global, tokens: &mut Tokens) -> Result<Items<Mod>, SyntaxError>
+pub(crate) fn read_all_modifiers(
+    alloc: Global,
+    tokens: &mut Tokens,
+) -> Result<Items<Mod>, SyntaxError>
     ensures { Steps spec.all_modifiers tokens.old result tokens.new }
 {
     more_modifiers(alloc, tokens, Items::new(alloc))
@@ -190,7 +193,7 @@ fn word_fits(declaration: Declaration, mods: &[Mod], word: ModWord) -> bool
 /// Whether these modifiers may stand before the declaration: no word twice, none that may not stand
 /// there, each that has to, and at most one of `public`, `protected` and `private`.
 #[tactic(auto, unfolding(crate::specs::Reading::fits))]
-pub fn modifiers_fit(declaration: Declaration, mods: &[Mod]) -> bool
+pub(crate) fn modifiers_fit(declaration: Declaration, mods: &[Mod]) -> bool
     ensures { result ≡ spec.fits declaration mods.now }
 {
     word_fits(declaration, mods, ModWord::Public)
@@ -205,7 +208,7 @@ pub fn modifiers_fit(declaration: Declaration, mods: &[Mod]) -> bool
 
 /// Reads modifiers that may stand before the declaration.
 #[tactic(auto, unfolding(crate::specs::Reading::modifiers))]
-pub fn read_modifiers(
+pub(crate) fn read_modifiers(
     alloc: Global,
     tokens: &mut Tokens,
     declaration: Declaration,

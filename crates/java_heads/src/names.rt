@@ -6,9 +6,9 @@ ghost use Rattle.java_phrases.specs.Parser.{word, turns};
 ghost use Rattle.java_phrases.specs.Cursor.{ahead, Steps};
 ghost use Rattle.java_heads.specs.Reading as spec;
 
+use desk_base::Items;
 use java_phrases::{SyntaxError, Tokens};
 use java_tree::{Kind, Lexeme};
-use sqlite_items::Items;
 use std::alloc::Global;
 
 #[tactic(auto, unfolding(crate::specs::Reading::goes_on))]
@@ -50,7 +50,10 @@ fn more_names(
 
 /// Reads a qualified name, as far as a name follows each dot (JLS 8, 6.5).
 #[tactic(auto, unfolding(crate::specs::Reading::qualified))]
-pub fn read_qualified(alloc: Global, tokens: &mut Tokens) -> Result<Items<Lexeme>, SyntaxError>
+pub(crate) fn read_qualified(
+    alloc: Global,
+    tokens: &mut Tokens,
+) -> Result<Items<Lexeme>, SyntaxError>
     ensures { Steps spec.qualified tokens.old result tokens.new }
 {
     let mut names = Items::new(alloc);

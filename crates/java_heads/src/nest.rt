@@ -1,9 +1,8 @@
 //! Annotations whose elements are still being read. They are kept in a list and not on the stack, as
 //! they may nest as deep as a file is long.
 
-use desk_base::Span;
-use java_tree::{Annot, Elem, Lexeme};
-use sqlite_items::Items;
+use desk_base::{Items, Span};
+use java_tree::{AnnotLayer, Elem, InnerAnnot, Lexeme};
 
 /// An annotation that is open, and its elements so far. Another one is to come.
 #[derive(Drop)]
@@ -19,13 +18,15 @@ pub(crate) struct Frame {
 /// What has been read last.
 #[derive(Drop)]
 pub(crate) enum Opened {
-    Whole(Annot),
+    Whole(AnnotLayer),
     Open(Frame),
 }
 
-/// What has been read last, and the annotations round it, the innermost last.
+/// What has been read last, the annotations round it, the innermost last, and those within these that
+/// have ended.
 #[derive(Drop)]
 pub(crate) struct Nest {
     pub(crate) outer: Items<Frame>,
-    pub(crate) inner: Opened,
+    pub(crate) ended: Items<InnerAnnot>,
+    pub(crate) last: Opened,
 }

@@ -9,9 +9,9 @@ ghost use Rattle.java_heads.specs.Reading as spec;
 use crate::declaration::Declaration;
 use crate::modifiers::read_modifiers;
 use crate::names::read_qualified;
+use desk_base::Items;
 use java_phrases::{SyntaxError, Tokens, read_type};
 use java_tree::{Kind, Lexeme, Param, Ty};
-use sqlite_items::Items;
 use std::alloc::Global;
 
 /// How many parameters a method or constructor has at most (JVMS 8, 4.3.3).
@@ -66,7 +66,10 @@ fn some_parameters(alloc: Global, tokens: &mut Tokens) -> Result<Items<Param>, S
 
 /// Reads parameters in parentheses, at most 255 (JLS 8, 8.4.1).
 #[tactic(auto, unfolding(crate::specs::Reading::parameters))]
-pub fn read_parameters(alloc: Global, tokens: &mut Tokens) -> Result<Items<Param>, SyntaxError>
+pub(crate) fn read_parameters(
+    alloc: Global,
+    tokens: &mut Tokens,
+) -> Result<Items<Param>, SyntaxError>
     ensures { Steps spec.parameters tokens.old result tokens.new }
 {
     tokens.sign(Kind::LParen)?;
@@ -122,7 +125,10 @@ fn some_throws(alloc: Global, tokens: &mut Tokens) -> Result<Items<Items<Lexeme>
 
 /// Reads `throws` and what it names, if it stands next (JLS 8, 8.4.6).
 #[tactic(auto, unfolding(crate::specs::Reading::throws))]
-pub fn read_throws(alloc: Global, tokens: &mut Tokens) -> Result<Items<Items<Lexeme>>, SyntaxError>
+pub(crate) fn read_throws(
+    alloc: Global,
+    tokens: &mut Tokens,
+) -> Result<Items<Items<Lexeme>>, SyntaxError>
     ensures { Steps spec.throws tokens.old result tokens.new }
 {
     if tokens.sees(Kind::Throws) {
@@ -134,7 +140,7 @@ pub fn read_throws(alloc: Global, tokens: &mut Tokens) -> Result<Items<Items<Lex
 
 /// Reads the result of a method: a type, or `None` for `void` (JLS 8, 8.4.5).
 #[tactic(auto, unfolding(crate::specs::Reading::result_type))]
-pub fn read_result(alloc: Global, tokens: &mut Tokens) -> Result<Option<Ty>, SyntaxError>
+pub(crate) fn read_result(alloc: Global, tokens: &mut Tokens) -> Result<Option<Ty>, SyntaxError>
     ensures { Steps spec.result_type tokens.old result tokens.new }
 {
     if tokens.sees(Kind::Void) {

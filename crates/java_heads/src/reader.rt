@@ -9,7 +9,8 @@ ghost use Rattle.java_tree.specs.declared.file.Import.{Import};
 ghost use Rattle.java_heads.specs.declared.header.Header.{Header};
 ghost use Rattle.java_phrases.specs.Cursor.{ahead};
 ghost use Rattle.java_heads.specs.Spelling.{PackageSpells, ImportSpells, HeaderSpells, FieldSpells, SigSpells};
-ghost use Rattle.java_heads.specs.Answers.{Gives, Reads, Takes, TakesHeader, field_with, sig_with, header_with};
+ghost use Rattle.java_phrases.specs.Answers.{Gives};
+ghost use Rattle.java_heads.specs.Answers.{Reads, ReadsKept, ReadsHeader, field_with, sig_with, header_with};
 ghost use Rattle.java_heads.specs.Reading as spec;
 
 use crate::header::{Header, type_header};
@@ -38,7 +39,7 @@ pub fn read_import(alloc: Global, tokens: &mut Tokens) -> Result<Import, SyntaxE
 
 /// A header with its tokens, without its brace.
 fn kept_header(alloc: Global, tokens: &mut Tokens) -> Result<Header, SyntaxError>
-    ensures reads { Takes spec.type_header header_with (ahead tokens.old) result (ahead tokens.new) }
+    ensures reads { ReadsKept spec.type_header header_with (ahead tokens.old) result (ahead tokens.new) }
     ensures fresh { OnOk result (tokens.new.taken ≡ []) }
 {
     let _before = tokens.keep(alloc);
@@ -59,7 +60,7 @@ fn brace(alloc: Global, tokens: &mut Tokens) -> Result<(), SyntaxError>
 }
 
 fn braced_header(alloc: Global, tokens: &mut Tokens) -> Result<Header, SyntaxError>
-    ensures reads { TakesHeader (ahead tokens.old) result (ahead tokens.new) }
+    ensures reads { ReadsHeader (ahead tokens.old) result (ahead tokens.new) }
     ensures fresh { OnOk result (tokens.new.taken ≡ []) }
 {
     let header = kept_header(alloc, tokens)?;
@@ -78,7 +79,7 @@ pub fn read_header(alloc: Global, tokens: &mut Tokens) -> Result<Header, SyntaxE
 }
 
 fn kept_field(alloc: Global, tokens: &mut Tokens) -> Result<Field, SyntaxError>
-    ensures reads { Takes spec.field field_with (ahead tokens.old) result (ahead tokens.new) }
+    ensures reads { ReadsKept spec.field field_with (ahead tokens.old) result (ahead tokens.new) }
     ensures fresh { OnOk result (tokens.new.taken ≡ []) }
 {
     let _before = tokens.keep(alloc);
@@ -98,7 +99,7 @@ pub fn read_field(alloc: Global, tokens: &mut Tokens) -> Result<Field, SyntaxErr
 }
 
 fn kept_sig(alloc: Global, tokens: &mut Tokens) -> Result<Sig, SyntaxError>
-    ensures reads { Takes spec.signature sig_with (ahead tokens.old) result (ahead tokens.new) }
+    ensures reads { ReadsKept spec.signature sig_with (ahead tokens.old) result (ahead tokens.new) }
     ensures fresh { OnOk result (tokens.new.taken ≡ []) }
 {
     let _before = tokens.keep(alloc);

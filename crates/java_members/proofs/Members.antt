@@ -10,22 +10,20 @@ use Rattle.java_phrases.specs.declared.error.SyntaxError.{SyntaxError}
 use Rattle.java_phrases.specs.declared.error.SyntaxError.TheVariants as error
 use Rattle.java_phrases.specs.declared.tokens.Tokens.{Tokens}
 use Rattle.java_phrases.specs.Cursor.{ahead, from_start}
-use Rattle.java_phrases.specs.Parser.{Found, next_kind}
+use Rattle.java_phrases.specs.Parser.{next_kind}
 use Rattle.java_phrases.proofs.Phrases.{next-sign}
-use Rattle.java_heads.specs.Answers.{Gives}
+use Rattle.java_phrases.specs.Answers.{Gives, Takes, Finds}
+use Rattle.java_heads.specs.Answers.{field_with}
 use Rattle.java_heads.proofs.Parts.{ahead-same}
-use Rattle.java_heads.proofs.MemberLaws.{field_of}
-use Rattle.java_heads.proofs.ParameterLaws.{AfterThrows, after-throws}
+use Rattle.java_heads.specs.Headings.{HeadingSpells, BodyFollows, OneHeading}
 use Rattle.java_statements.specs.Spelling.{BlockSpells}
-use Rattle.java_members.specs.declared.heading.Heading.{Heading}
-use Rattle.java_members.specs.declared.heading.Heading.TheVariants as heading
-use Rattle.java_members.specs.declared.heading.MethodHeading.{MethodHeading}
-use Rattle.java_members.specs.declared.heading.CtorHeading.{CtorHeading}
-use Rattle.java_members.specs.declared.heading.MainHeading.{MainHeading}
+use Rattle.java_heads.specs.declared.heading.Heading.{Heading}
+use Rattle.java_heads.specs.declared.heading.Heading.TheVariants as heading
+use Rattle.java_heads.specs.declared.heading.MethodHeading.{MethodHeading}
+use Rattle.java_heads.specs.declared.heading.CtorHeading.{CtorHeading}
+use Rattle.java_heads.specs.declared.heading.MainHeading.{MainHeading}
 use Rattle.java_members.specs.Spelling.{MemberParts, tokens_of, MemberSpells}
-use Rattle.java_members.specs.Answers.{Takes}
 use Rattle.java_members.specs.Parts.{Completes, Whole, member_with, method_of, ctor_of, main_of}
-use Rattle.java_members.proofs.Headings.{HeadingSpells, heading-sound, method-complete, ctor-complete, main-complete, field-complete}
 
 -- ---- bodies
 
@@ -34,13 +32,19 @@ unfolding BlockSpells
 block-first zero b ts rest s = absurd s
 block-first (suc room) b ts rest (mid, s, tail) = next-sign k.LBrace (out-Block b).opening ts mid s
 
-block-follows : (b : Block) (ts rest : List Token) → BlockSpells 64 b ts rest → AfterThrows ts
-block-follows b ts rest s = after-throws k.LBrace ts (block-first 64 b ts rest s) refl refl refl
+body-follows : (h : Heading) (m : MemberTree) (ts rest : List Token) → Completes h m ts rest → BodyFollows h ts
+body-follows (heading.Field f) m ts rest s = tt
+body-follows (heading.Method h) m ts rest (b, is, body) = block-first 64 b ts rest body
+body-follows (heading.Ctor h) m ts rest (b, is, body) = block-first 64 b ts rest body
+body-follows (heading.Main h) m ts rest (b, is, body) = block-first 64 b ts rest body
 
 -- ---- what was read is spelled
 
 spelled-by : (class : List ℕ) (h : Heading) (m : MemberTree) (ts mid rest : List Token) → HeadingSpells class h ts mid → Completes h m mid rest → MemberParts class m ts rest
-spelled-by class (heading.Field f) m ts mid rest s (is, none) = let P : MemberTree → Type 0 = λ x. MemberParts class x ts rest in let Q : List Token → Type 0 = λ l. HeadingSpells class (heading.Field f) ts l in subst P (sym is) (subst Q none s)
+spelled-by class (heading.Field f) m ts mid rest (bare, s) (is, none) =
+    let P : MemberTree → Type 0 = λ x. MemberParts class x ts rest in
+    let Q : List Token → Type 0 = λ l. MemberParts class (member.Field f) ts l in
+    subst P (sym is) (subst Q none s)
 spelled-by class (heading.Method h) m ts mid rest (t1, s1, (t2, s2, (t3, s3, (t4, s4, s5)))) (b, is, body) =
     let P : MemberTree → Type 0 = λ x. MemberParts class x ts rest in
     subst P (sym is) (t1, s1, (t2, s2, (t3, s3, (t4, s4, (mid, s5, body)))))
@@ -52,23 +56,47 @@ spelled-by class (heading.Main h) m ts mid rest (t1, s1, (t2, s2, (same, (t3, s3
     subst P (sym is) (t1, s1, (t2, s2, (same, (t3, s3, (t4, s4, (t5, s5, (t6, s6, (t7, s7, (t8, s8, (t9, s9, (u1, s10, (mid, s11, body))))))))))))
 
 whole-sound : (class : List ℕ) (m : MemberTree) (ts rest : List Token) → Whole class m ts rest → MemberParts class m ts rest
-whole-sound class m ts rest (h, mid, e, s) = spelled-by class h m ts mid rest (heading-sound class ts mid h e) s
+whole-sound class m ts rest (h, mid, e, s) = spelled-by class h m ts mid rest e s
 
 -- ---- what is spelled is read
 
 whole-complete : (class : List ℕ) (m : MemberTree) (ts rest : List Token) → MemberParts class m ts rest → Whole class (member_with [] m) ts rest
-whole-complete class (member.Field f) ts rest (t1, (fit, s1), (t2, s2, (t3, s3, s4))) =
-    (heading.Field (field_of f.mods f.ty f.name f.init), rest, field-complete class f.mods f.ty f.name f.init ts t1 t2 t3 rest fit s1 s2 s3 s4, (refl, refl))
+whole-complete class (member.Field f) ts rest s = (heading.Field (field_with [] f), rest, (refl, s), (refl, refl))
 whole-complete class (member.Method m) ts rest (t1, s1, (t2, s2, (t3, s3, (t4, s4, (mid, s5, body))))) =
     let h : MethodHeading = record { mods = m.mods; result = m.result; name = m.name; params = m.params; throws = m.throws } in
-    (heading.Method h, mid, method-complete class h ts mid (t1, s1, (t2, s2, (t3, s3, (t4, s4, s5)))) (block-follows m.body mid rest body), (m.body, refl, body))
+    (heading.Method h, mid, (t1, s1, (t2, s2, (t3, s3, (t4, s4, s5)))), (m.body, refl, body))
 whole-complete class (member.Ctor c) ts rest (t1, s1, (same, (t2, s2, (t3, s3, (mid, s4, body))))) =
     let h : CtorHeading = record { mods = c.mods; name = c.name; params = c.params; throws = c.throws } in
-    (heading.Ctor h, mid, ctor-complete class h ts mid (t1, s1, (same, (t2, s2, (t3, s3, s4)))) (block-follows c.body mid rest body), (c.body, refl, body))
+    (heading.Ctor h, mid, (t1, s1, (same, (t2, s2, (t3, s3, s4)))), (c.body, refl, body))
 whole-complete class (member.Main m) ts rest (t1, s1, (t2, s2, (same, (t3, s3, (t4, s4, (t5, s5, (t6, s6, (t7, s7, (t8, s8, (t9, s9, (u1, s10, (mid, s11, body)))))))))))) =
     let h : MainHeading = record { mods = m.mods; name = m.name; final_word = m.final_word; param = m.param; throws = m.throws } in
-    (heading.Main h, mid, main-complete class h ts mid (t1, s1, (t2, s2, (same, (t3, s3, (t4, s4, (t5, s5, (t6, s6, (t7, s7, (t8, s8, (t9, s9, (u1, s10, s11))))))))))) (block-follows m.body mid rest body), (m.body, refl, body))
+    (heading.Main h, mid, (t1, s1, (t2, s2, (same, (t3, s3, (t4, s4, (t5, s5, (t6, s6, (t7, s7, (t8, s8, (t9, s9, (u1, s10, s11))))))))))), (m.body, refl, body))
 whole-complete class (member.Sig s) ts rest none = absurd none
+
+-- ---- a heading is read, and then what completes it
+
+pub whole-finds : (class : List ℕ) (ts mid after : List Token) (h : Heading) (r : Result MemberTree SyntaxError) → HeadingSpells class h ts mid
+    → ((g : Heading) (rest : List Token) → HeadingSpells class g ts rest → BodyFollows g rest → (h ≡ g) × (mid ≡ rest)) → Finds (Completes h) mid r after → Finds (Whole class) ts r after
+whole-finds class ts mid after h (Ok m) s one (done, alone) = ((h, mid, s, done), λ y other (g, left, s1, ends). only y other g left s1 ends)
+  where
+    only : (y : MemberTree) (other : List Token) (g : Heading) (left : List Token) → HeadingSpells class g ts left → Completes g y left other → (m ≡ y) × (after ≡ other)
+    only y other g left s1 ends =
+        let (same, there) = one g left s1 (body-follows g y left other ends) in
+        let P : Heading → Type 0 = λ x. Completes x y mid other in
+        let Q : List Token → Type 0 = λ l. Completes g y l other in
+        alone y other (subst P (sym same) (subst Q (sym there) ends))
+whole-finds class ts mid after h (Err e) s one lost = λ other y rest (g, left, s1, ends). fails other y rest g left s1 ends
+  where
+    fails : e ≢ error.OutOfMemory → (y : MemberTree) (rest : List Token) (g : Heading) (left : List Token) → HeadingSpells class g ts left → Completes g y left rest → ⊥
+    fails other y rest g left s1 ends =
+        let (same, there) = one g left s1 (body-follows g y left rest ends) in
+        let P : Heading → Type 0 = λ x. Completes x y mid rest in
+        let Q : List Token → Type 0 = λ l. Completes g y l rest in
+        lost other y rest (subst P (sym same) (subst Q (sym there) ends))
+
+pub whole-lost : (class : List ℕ) (ts after : List Token) (e : SyntaxError) → ((g : Heading) (rest : List Token) → HeadingSpells class g ts rest → BodyFollows g rest → e ≡ error.OutOfMemory)
+    → e ≢ error.OutOfMemory → (y : MemberTree) (other : List Token) → Whole class y ts other → ⊥
+whole-lost class ts after e only differs y other (g, left, s, ends) = differs (only g left s (body-follows g y left other ends))
 
 -- ---- tokens in the tree
 
@@ -140,19 +168,17 @@ completes-one blocks (heading.Method h) one other ts rest other_rest (b, is, s) 
 completes-one blocks (heading.Ctor h) one other ts rest other_rest (b, is, s) (c, was, s1) = let (same, ends) = blocks 64 ts rest other_rest b c s s1 in (is ∙ ap (λ x. member.Ctor (ctor_of h x)) same ∙ sym was, ends)
 completes-one blocks (heading.Main h) one other ts rest other_rest (b, is, s) (c, was, s1) = let (same, ends) = blocks 64 ts rest other_rest b c s s1 in (is ∙ ap (λ x. member.Main (main_of h x)) same ∙ sym was, ends)
 
-whole-one : (blocks : (limit : ℕ) (ts rest other_rest : List Token) (one other : Block) → BlockSpells limit one ts rest → BlockSpells limit other ts other_rest → (one ≡ other) × (rest ≡ other_rest))
+whole-one : (headings : OneHeading) (blocks : (limit : ℕ) (ts rest other_rest : List Token) (one other : Block) → BlockSpells limit one ts rest → BlockSpells limit other ts other_rest → (one ≡ other) × (rest ≡ other_rest))
     → (class : List ℕ) (one other : MemberTree) (ts rest other_rest : List Token) → Whole class one ts rest → Whole class other ts other_rest → (one ≡ other) × (rest ≡ other_rest)
-whole-one blocks class one other ts rest other_rest (h, mid, e, s) (g, mid1, e1, s1) =
-    let same : Found h mid ≡ Found g mid1 = sym e ∙ e1 in
-    let a : g ≡ h = cc in
-    let b : mid1 ≡ mid = cc in
+whole-one headings blocks class one other ts rest other_rest (h, mid, e, s) (g, mid1, e1, s1) =
+    let (same, there) = headings class h g ts mid mid1 e (body-follows h one mid rest s) e1 (body-follows g other mid1 other_rest s1) in
     let P : Heading → Type 0 = λ x. Completes x other mid other_rest in
     let Q : List Token → Type 0 = λ l. Completes g other l other_rest in
-    completes-one blocks h one other mid rest other_rest s (subst P a (subst Q b s1))
+    completes-one blocks h one other mid rest other_rest s (subst P (sym same) (subst Q (sym there) s1))
 
-pub one_member : (blocks : (limit : ℕ) (ts rest other_rest : List Token) (one other : Block) → BlockSpells limit one ts rest → BlockSpells limit other ts other_rest → (one ≡ other) × (rest ≡ other_rest))
+pub one_member : (headings : OneHeading) (blocks : (limit : ℕ) (ts rest other_rest : List Token) (one other : Block) → BlockSpells limit one ts rest → BlockSpells limit other ts other_rest → (one ≡ other) × (rest ≡ other_rest))
     → (class : List ℕ) (one other : MemberTree) (ts rest other_rest : List Token) → MemberSpells class one ts rest → MemberSpells class other ts other_rest → (one ≡ other) × (rest ≡ other_rest)
-one_member blocks class one other ts rest other_rest (s, of_one) (s1, of_other) =
-    let (same, ends) = whole-one blocks class (member_with [] one) (member_with [] other) ts rest other_rest (whole-complete class one ts rest s) (whole-complete class other ts other_rest s1) in
+one_member headings blocks class one other ts rest other_rest (s, of_one) (s1, of_other) =
+    let (same, ends) = whole-one headings blocks class (member_with [] one) (member_with [] other) ts rest other_rest (whole-complete class one ts rest s) (whole-complete class other ts other_rest s1) in
     let taken : tokens_of one ≡ tokens_of other = append_cancel_right (tokens_of one) (tokens_of other) other_rest (ap (λ l. tokens_of one ++ l) (sym ends) ∙ sym of_one ∙ of_other) in
     (sym (own-tokens one) ∙ ap (λ l. member_with l (member_with [] one)) taken ∙ ap (member_with (tokens_of other)) same ∙ own-tokens other, ends)

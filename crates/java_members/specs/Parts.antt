@@ -8,15 +8,14 @@ use Rattle.java_tree.specs.declared.member.Main.{Main}
 use Rattle.java_tree.specs.declared.member.MemberTree.{MemberTree}
 use Rattle.java_tree.specs.declared.member.MemberTree.TheVariants as member
 use Rattle.java_phrases.specs.Phrase.{Phrase}
-use Rattle.java_phrases.specs.Parser.{Found}
 use Rattle.java_heads.specs.Answers.{field_with, sig_with}
 use Rattle.java_statements.specs.Spelling.{BlockSpells}
-use Rattle.java_members.specs.declared.heading.Heading.{Heading}
-use Rattle.java_members.specs.declared.heading.Heading.TheVariants as heading
-use Rattle.java_members.specs.declared.heading.MethodHeading.{MethodHeading}
-use Rattle.java_members.specs.declared.heading.CtorHeading.{CtorHeading}
-use Rattle.java_members.specs.declared.heading.MainHeading.{MainHeading}
-use Rattle.java_members.specs.Reading.{member_heading}
+use Rattle.java_heads.specs.declared.heading.Heading.{Heading}
+use Rattle.java_heads.specs.declared.heading.Heading.TheVariants as heading
+use Rattle.java_heads.specs.declared.heading.MethodHeading.{MethodHeading}
+use Rattle.java_heads.specs.declared.heading.CtorHeading.{CtorHeading}
+use Rattle.java_heads.specs.declared.heading.MainHeading.{MainHeading}
+use Rattle.java_heads.specs.Headings.{HeadingSpells}
 
 -- ---- a heading with its body, without the tokens
 
@@ -36,9 +35,9 @@ Completes (heading.Method h) m ts rest = (body : Block) × (m ≡ member.Method 
 Completes (heading.Ctor h) m ts rest = (body : Block) × (m ≡ member.Ctor (ctor_of h body)) × BlockSpells 64 body ts rest
 Completes (heading.Main h) m ts rest = (body : Block) × (m ≡ member.Main (main_of h body)) × BlockSpells 64 body ts rest
 
--- a heading that is read and what completes it
+-- a heading and what completes it
 abbrev pub Whole : List ℕ → MemberTree → Phrase
-Whole class m ts rest = (h : Heading) × (mid : List Token) × (member_heading class ts ≡ Found h mid) × Completes h m mid rest
+Whole class m ts rest = (h : Heading) × (mid : List Token) × HeadingSpells class h ts mid × Completes h m mid rest
 
 -- ---- where a member keeps its tokens
 

@@ -1,6 +1,6 @@
 -- Which tokens spell which member of a class: one definition for each production (JLS 8, 8.4, 8.8,
 -- 12.1.4, as far as the subset goes).
-use Rattle.std.specs.Prelude.{◌≡◌, ℕ, List, codes}
+use Rattle.std.specs.Prelude.{◌≡◌, ℕ, List}
 use Rattle.java_tree.specs.declared.kind.Kind.TheVariants as k
 use Rattle.java_tree.specs.declared.token.Token.{Token}
 use Rattle.java_tree.specs.declared.member.Method.{Method}
@@ -8,13 +8,11 @@ use Rattle.java_tree.specs.declared.member.Ctor.{Ctor}
 use Rattle.java_tree.specs.declared.member.Main.{Main}
 use Rattle.java_tree.specs.declared.member.MemberTree.{MemberTree}
 use Rattle.java_tree.specs.declared.member.MemberTree.TheVariants as member
-use Rattle.java_phrases.specs.Phrase.{Phrase, ◌⨾◌, ◌⊢◌, Never, Mark, Spelled}
+use Rattle.java_phrases.specs.Phrase.{Phrase, ◌⨾◌, ◌⊢◌, Never, Mark, Sign, Spelled, Named, Optional}
 use Rattle.java_heads.specs.declared.declaration.Declaration.TheVariants as of
-use Rattle.java_heads.specs.Spelling.{Kept, NameIs, Perhaps, Mods, Params, Throws, ResultSpells, FieldParts, string_name}
+use Rattle.java_heads.specs.Spelling.{Kept, Mods, Params, Throws, ResultSpells, FieldParts, string_name}
+use Rattle.java_heads.specs.Headings.{main_name}
 use Rattle.java_statements.specs.Spelling.{BlockSpells}
-
-abbrev pub main_name : List ℕ
-main_name = codes "main"
 
 -- Method = Mods (Ty | "void") Name Params [Throws] Block
 abbrev pub MethodParts : Method → Phrase
@@ -28,7 +26,7 @@ CtorParts class c = Mods of.Ctor c.mods ⨾ (c.name.text ≡ class) ⊢ Spelled 
 abbrev pub MainParts : Main → Phrase
 MainParts m =
     Mods of.Main m.mods ⨾ Mark k.Void ⨾ (m.name.text ≡ main_name) ⊢ Spelled k.Name m.name
-    ⨾ Mark k.LParen ⨾ Perhaps k.Final m.final_word ⨾ NameIs string_name ⨾ Mark k.LBracket ⨾ Mark k.RBracket ⨾ Spelled k.Name m.param ⨾ Mark k.RParen
+    ⨾ Mark k.LParen ⨾ Optional (Sign k.Final) m.final_word ⨾ Named string_name ⨾ Mark k.LBracket ⨾ Mark k.RBracket ⨾ Spelled k.Name m.param ⨾ Mark k.RParen
     ⨾ Throws m.throws ⨾ BlockSpells 64 m.body
 
 -- Field | Method | Ctor | Main

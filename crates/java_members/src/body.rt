@@ -3,15 +3,14 @@
 ghost use Rattle.std.specs.Prelude.{◌≡◌, OnOk};
 ghost use Rattle.java_phrases.specs.Cursor.{ahead, from_start};
 ghost use Rattle.java_statements.specs.Spelling.{BlockSpells};
-ghost use Rattle.java_members.specs.Answers.{Finds};
+ghost use Rattle.java_phrases.specs.Answers.{Finds};
 ghost use Rattle.java_members.specs.Parts.{Completes, Whole};
 
-use crate::heading::{CtorHeading, Heading, MainHeading, MethodHeading, member_heading};
-use desk_base::Name;
+use desk_base::{Items, Name};
+use java_heads::{CtorHeading, Heading, MainHeading, MethodHeading, read_heading};
 use java_phrases::{SyntaxError, Tokens};
 use java_statements::read_block;
 use java_tree::{Block, Ctor, Main, MemberTree, Method};
-use sqlite_items::Items;
 use std::alloc::Global;
 
 /// How many nodes there are at most on a path of a member's tree.
@@ -105,6 +104,6 @@ pub(crate) fn whole(
     ensures reads { Finds (Whole class_name.now) (ahead tokens.old) result (ahead tokens.new) }
     ensures kept { OnOk result (from_start tokens.new ≡ from_start tokens.old) }
 {
-    let heading = member_heading(alloc, tokens, class_name)?;
+    let heading = read_heading(alloc, tokens, class_name)?;
     completed(alloc, tokens, heading)
 }

@@ -1,9 +1,8 @@
-//! Reading the members of a class: fields, methods, constructors and `main`, each by its first tokens.
-//! It knows nothing of whole files, nor of names and types.
+//! Reading the members of a class: fields, methods, constructors and `main`, each by its heading and
+//! its body. It knows nothing of whole files, nor of names and types.
 #![tactic(auto)]
 
 mod body;
-mod heading;
 mod laws;
 mod reader;
 

@@ -4,16 +4,14 @@ ghost use Rattle.std.specs.Prelude.{◌≡◌, List, [], IfOk, OnOk};
 ghost use Rattle.java_tree.specs.declared.token.Token.{Token};
 ghost use Rattle.java_tree.specs.declared.member.MemberTree.{MemberTree};
 ghost use Rattle.java_phrases.specs.Cursor.{ahead};
-ghost use Rattle.java_heads.specs.Answers.{Gives};
+ghost use Rattle.java_phrases.specs.Answers.{Gives, Takes};
 ghost use Rattle.java_members.specs.Spelling.{MemberSpells};
-ghost use Rattle.java_members.specs.Answers.{Takes};
 ghost use Rattle.java_members.specs.Parts.{Whole, member_with};
 
 use crate::body::whole;
-use desk_base::Name;
+use desk_base::{Items, Name};
 use java_phrases::{SyntaxError, Tokens};
 use java_tree::{MemberTree, Token};
-use sqlite_items::Items;
 use std::alloc::Global;
 
 fn with_tokens(member: MemberTree, tokens: Items<Token>) -> MemberTree

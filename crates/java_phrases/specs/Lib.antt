@@ -2,3 +2,5 @@ pub mod Phrase
 pub mod Parser
 pub mod Cursor
 pub mod Types
+pub mod Texts
+pub mod Answers

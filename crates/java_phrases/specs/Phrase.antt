@@ -1,6 +1,6 @@
 -- What the productions of a grammar are made of: phrases, each a relation between the tokens before
 -- it and the tokens after it.
-use Rattle.std.specs.Prelude.{◌≡◌, ◌⊎◌, List, [], ◌∷◌}
+use Rattle.std.specs.Prelude.{◌≡◌, ◌⊎◌, ℕ, List, [], ◌∷◌, Option, Some, None}
 use Rattle.desk_base.specs.declared.span.Span.{Span}
 use Rattle.java_tree.specs.declared.kind.Kind.{Kind}
 use Rattle.java_tree.specs.declared.kind.Kind.TheVariants as k
@@ -34,6 +34,15 @@ word_of t = record { text = t.bytes; span = t.span }
 -- a name or a literal
 abbrev pub Spelled : Kind → Lexeme → Phrase
 Spelled kind word ts rest = (t : Token) × (ts ≡ t ∷ rest) × (t.kind ≡ kind) × (word_of t ≡ word)
+
+-- a name that is written so
+abbrev pub Named : List ℕ → Phrase
+Named text ts rest = (t : Token) × (ts ≡ t ∷ rest) × (t.kind ≡ k.Name) × (t.bytes ≡ text)
+
+-- [item]
+abbrev pub Optional : {A : Type 0} → (A → Phrase) → Option A → Phrase
+Optional P None = Nothing
+Optional P (Some x) = P x
 
 -- one phrase for each item, in order
 abbrev pub Each : {A : Type 0} → (A → Phrase) → List A → Phrase

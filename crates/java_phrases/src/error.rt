@@ -15,7 +15,7 @@ pub enum SyntaxError {
 impl fmt::Display for SyntaxError {
     fn fmt<W: fmt::Write>(&self, f: &mut fmt::Formatter<W>) -> fmt::Result {
         f.write_str(match self {
-            SyntaxError::NotSpelled => "the tokens do not spell an expression",
+            SyntaxError::NotSpelled => "the tokens do not spell what was to be read",
             SyntaxError::OutOfMemory => "out of memory",
         })
     }

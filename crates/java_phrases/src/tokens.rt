@@ -6,9 +6,8 @@ ghost use Rattle.std.specs.Option.{option_copied};
 ghost use Rattle.java_phrases.specs.Parser as spec;
 
 use crate::error::SyntaxError;
-use desk_base::{Name, OutOfMemory, Span};
+use desk_base::{Items, Name, OutOfMemory, Span};
 use java_tree::{Kind, Lexeme, Token};
-use sqlite_items::Items;
 use std::alloc::Global;
 
 /// The tokens that are still to be read, and those of the part at hand that were.
@@ -93,33 +92,33 @@ impl Tokens {
         }
     }
 
-    /// Reads a token of this kind, and answers where it stands.
+    /// Reads a token of this kind, and answers where it stands. A token of another kind stays ahead.
     #[tactic(auto, unfolding(crate::specs::Parser::sign))]
     pub fn sign(&mut self, kind: Kind) -> Result<Span, SyntaxError>
         ensures { Steps (spec.sign kind) self.old result self.new }
     {
+        if !self.sees(kind) {
+            return Err(SyntaxError::NotSpelled);
+        }
         let Some(token) = self.take() else {
             return Err(SyntaxError::NotSpelled);
         };
-        if token.kind != kind {
-            return Err(SyntaxError::NotSpelled);
-        }
         let span = token.span;
         self.taken.push(token)?;
         Ok(span)
     }
 
-    /// Reads a name or a literal.
+    /// Reads a name or a literal. A token of another kind stays ahead.
     #[tactic(auto, unfolding(crate::specs::Parser::word))]
     pub fn word(&mut self, alloc: Global, kind: Kind) -> Result<Lexeme, SyntaxError>
         ensures { Steps (spec.word kind) self.old result self.new }
     {
+        if !self.sees(kind) {
+            return Err(SyntaxError::NotSpelled);
+        }
         let Some(token) = self.take() else {
             return Err(SyntaxError::NotSpelled);
         };
-        if token.kind != kind {
-            return Err(SyntaxError::NotSpelled);
-        }
         let name = Name::from_slice(alloc, token.bytes.as_slice())?;
         let word = Lexeme {
             text: name,

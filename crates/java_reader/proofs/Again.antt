@@ -13,10 +13,10 @@ use Rattle.java_tree.specs.declared.file.ClassTree.{ClassTree}
 use Rattle.java_tree.specs.declared.file.FileTree.{FileTree}
 use Rattle.java_lexer.specs.Spelling.{spelling}
 use Rattle.java_lexer.specs.Lexing.{Spells as TokenSpells, AreSpelled}
-use Rattle.java_phrases.specs.Phrase.{Phrase, Nothing, ◌⨾◌, Mark, Sign, Spelled, Each}
+use Rattle.java_phrases.specs.Phrase.{Phrase, Nothing, ◌⨾◌, Mark, Sign, Spelled, Each, Optional}
 use Rattle.java_phrases.proofs.Phrases.{mark-sign}
 use Rattle.java_heads.specs.Annotation.{Qualified}
-use Rattle.java_heads.specs.Spelling.{Perhaps, Star, PackageSpells, ImportSpells}
+use Rattle.java_heads.specs.Spelling.{Star, PackageSpells, ImportSpells}
 use Rattle.java_members.specs.Spelling.{tokens_of}
 use Rattle.java_reader.specs.Spelling.{TypeMember, TypeSpells, PackagePart, Spells}
 use Rattle.java_reader.specs.Alike.{Alike}
@@ -93,7 +93,7 @@ again-line : (line : Option Package) → OneWriting (PackagePart line)
 again-line None = again-nothing
 again-line (Some p) = again-package p
 
-again-static : (at : Option Span) → OneWriting (Perhaps k.Static at)
+again-static : (at : Option Span) → OneWriting (Optional (Sign k.Static) at)
 again-static None = again-nothing
 again-static (Some at) = again-sign k.Static at (λ b s. s)
 
@@ -103,8 +103,8 @@ again-star (Some at) = again-then (Mark k.Dot) (Sign k.Times at) (again-mark k.D
 
 again-import : (i : Import) → OneWriting (ImportSpells i)
 again-import i =
-    again-then (Mark k.Import) (Perhaps k.Static i.static_word ⨾ Qualified i.name ⨾ Star i.star ⨾ Mark k.Semicolon) (again-mark k.Import (λ b s. s))
-    (again-then (Perhaps k.Static i.static_word) (Qualified i.name ⨾ Star i.star ⨾ Mark k.Semicolon) (again-static i.static_word)
+    again-then (Mark k.Import) (Optional (Sign k.Static) i.static_word ⨾ Qualified i.name ⨾ Star i.star ⨾ Mark k.Semicolon) (again-mark k.Import (λ b s. s))
+    (again-then (Optional (Sign k.Static) i.static_word) (Qualified i.name ⨾ Star i.star ⨾ Mark k.Semicolon) (again-static i.static_word)
     (again-then (Qualified i.name) (Star i.star ⨾ Mark k.Semicolon) (again-qualified i.name)
     (again-then (Star i.star) (Mark k.Semicolon) (again-star i.star) (again-mark k.Semicolon (λ b s. s)))))
 

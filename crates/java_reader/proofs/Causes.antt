@@ -8,7 +8,7 @@ use Rattle.java_lexer.specs.Lexing.{Lexes, LexAt}
 use Rattle.java_reader.specs.declared.error.ReadError.{ReadError}
 use Rattle.java_reader.specs.declared.error.ReadError.TheVariants as error
 use Rattle.java_reader.specs.Spelling.{Spells}
-use Rattle.java_reader.specs.Reads.{Reads, IsTooLongAt, IsLexAt, IsLongNameAt, IsGrammarAt, IsLimitAt, IsCauseOf, first_long_name, place_of, Gives, Refuses}
+use Rattle.java_reader.specs.Reads.{Reads, IsTooLongAt, IsLexAt, IsLongNameAt, IsGrammarAt, IsLimitAt, IsCauseOf, first_long_name, place_of, GivesFile, Refuses}
 use Rattle.desk_base.specs.Limit.{limit_max}
 use Rattle.java_reader.specs.Answers.{IsTokenCause}
 use Rattle.java_reader.specs.Parts.{LeftByLongest}
@@ -93,7 +93,7 @@ module _ (list : (text : List ℕ) (first second : List Token) → Lexes text fi
   read-err : (text : List ℕ) (tree : FileTree) (e : ReadError) → Reads text tree → IsCauseOf text e → e ≢ error.OutOfMemory → ⊥
   read-err text tree e r h other = read-none text tree e r (view text e h other)
 
-  pub only-tree : (text : List ℕ) (r : Result FileTree ReadError) → IfOk r (Reads text) → IfErr r (IsCauseOf text) → (tree : FileTree) → Reads text tree → Gives r tree
+  pub only-tree : (text : List ℕ) (r : Result FileTree ReadError) → IfOk r (Reads text) → IfErr r (IsCauseOf text) → (tree : FileTree) → Reads text tree → GivesFile r tree
   only-tree text (Ok found) reads cause tree s = one-tree text found tree reads s
   only-tree text (Err error.OutOfMemory) reads cause tree s = refl
   only-tree text (Err (error.Limit which at)) reads cause tree s = absurd (read-err text tree (error.Limit which at) s cause (λ e. cc))

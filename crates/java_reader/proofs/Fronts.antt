@@ -3,7 +3,6 @@ use Rattle.std.proofs.Common.{◌≡◌, ℕ, true, false, List, [], ◌∷◌, 
 use Rattle.java_tree.specs.declared.kind.Kind.{Kind}
 use Rattle.java_tree.specs.declared.kind.Kind.TheVariants as k
 use Rattle.java_tree.specs.declared.token.Token.{Token}
-use Rattle.java_tree.specs.declared.member.Annot.{out-Annot}
 use Rattle.java_tree.specs.declared.member.Mod.{Mod}
 use Rattle.java_tree.specs.declared.member.Mod.TheVariants as modifier
 use Rattle.java_tree.specs.declared.member.ModWord.{ModWord}
@@ -70,7 +69,7 @@ brace-free : NoModifier k.RBrace
 brace-free = record { at = refl; word = brace-word }
 
 mod-front : (asked : Kind) → NoModifier asked → (m : Mod) (ts rest : List Token) → ModSpells m ts rest → sees asked ts ≡ false
-mod-front asked free (modifier.Annot a) ts rest (depth, (mid, s, tail)) = sees-kind asked k.At ts (next-sign k.At (out-Annot a).at ts mid s) ∙ free.at
+mod-front asked free (modifier.Annot a) ts rest (depth, (mid, s, tail)) = sees-kind asked k.At ts (next-sign k.At a.layer.at ts mid s) ∙ free.at
 mod-front asked free (modifier.Word m p) ts rest s = sees-kind asked (kind_of m) ts (next-sign (kind_of m) p ts rest s) ∙ free.word m
 
 mods-front : (asked : Kind) → NoModifier asked → (mods : List Mod) (ts rest : List Token) → Each ModSpells mods ts rest → sees asked rest ≡ false → sees asked ts ≡ false

@@ -19,14 +19,14 @@ use Rattle.java_tree.specs.declared.file.TypeKind.{TypeKind}
 use Rattle.java_tree.specs.declared.file.TypeKind.TheVariants as sort
 use Rattle.java_tree.specs.declared.file.Package.{Package}
 use Rattle.java_tree.specs.declared.file.Import.{Import}
-use Rattle.java_phrases.specs.Phrase.{Phrase, ◌⨾◌, Mark, Sign, Spelled, Each, Separated}
+use Rattle.java_phrases.specs.Phrase.{Phrase, ◌⨾◌, Mark, Sign, Spelled, Each, Separated, Named, Optional}
 use Rattle.java_phrases.specs.Types.{TySpells}
 use Rattle.java_phrases.proofs.Phrases.{Spent, spent-nothing, spent-one, not_longer}
 use Rattle.java_heads.specs.declared.declaration.Declaration.{Declaration}
 use Rattle.java_heads.specs.declared.declaration.Declaration.TheVariants as of
 use Rattle.java_heads.specs.declared.header.Header.{Header}
 use Rattle.java_heads.specs.Annotation.{Qualified}
-use Rattle.java_heads.specs.Spelling.{Perhaps, NameIs, Mods, ModSpells, ParamSpells, Params, Throws, ResultSpells, InitSpells, InitPart, SigParts, Star, PackageSpells, ImportSpells, HeaderSpells, object_name, string_name}
+use Rattle.java_heads.specs.Spelling.{Mods, ModSpells, ParamSpells, Params, Throws, ResultSpells, InitSpells, InitPart, SigParts, Star, PackageSpells, ImportSpells, HeaderSpells, object_name, string_name}
 use Rattle.java_heads.proofs.Lists.{Spends, spends-mark, spends-sign, spends-spelled, spends-then, spends-each, spends-joined, mark-shorter}
 use Rattle.java_heads.proofs.NameLaws.{spends-qualified}
 use Rattle.java_heads.proofs.ModifierLaws.{spends-mod}
@@ -72,10 +72,10 @@ spends-throws [] ts rest s = spent-nothing ts rest s
 spends-throws (name ∷ names) ts rest (mid, s, s1) =
     spends-then (Mark k.Throws) (λ a b. Spent a b) (spends-mark k.Throws) (λ a b taken. taken) ts rest (mid, s, spends-joined k.Comma Qualified spends-qualified (name ∷ names) mid rest s1)
 
-spends-name_is : (name : List ℕ) → Spends (NameIs name)
+spends-name_is : (name : List ℕ) → Spends (Named name)
 spends-name_is name ts rest (t, e, kind, is) = spent-one t ts rest e
 
-spends-perhaps : (kind : Kind) (at : Option Span) → Spends (Perhaps kind at)
+spends-perhaps : (kind : Kind) (at : Option Span) → Spends (Optional (Sign kind) at)
 spends-perhaps kind None ts rest s = spent-nothing ts rest s
 spends-perhaps kind (Some at) ts rest s = spends-sign kind at ts rest s
 
@@ -87,8 +87,8 @@ spends-init (init.False at) ts rest s = spends-sign k.False at ts rest s
 spends-init (init.Null at) ts rest s = spends-sign k.Null at ts rest s
 spends-init (init.Str word) ts rest s = spends-spelled k.StrLiteral word ts rest s
 spends-init (init.NewObject at) ts rest s =
-    spends-then (Sign k.New at) (NameIs object_name ⨾ Mark k.LParen ⨾ Mark k.RParen) (spends-sign k.New at)
-    (spends-then (NameIs object_name) (Mark k.LParen ⨾ Mark k.RParen) (spends-name_is object_name)
+    spends-then (Sign k.New at) (Named object_name ⨾ Mark k.LParen ⨾ Mark k.RParen) (spends-sign k.New at)
+    (spends-then (Named object_name) (Mark k.LParen ⨾ Mark k.RParen) (spends-name_is object_name)
     (spends-then (Mark k.LParen) (Mark k.RParen) (spends-mark k.LParen) (spends-mark k.RParen))) ts rest s
 
 spends-value : (v : Option Init) → Spends (InitPart v)
@@ -142,12 +142,12 @@ by-class class (member.Ctor c) ts rest (t1, mods, (same, s)) =
     by-last (Mods of.Ctor c.mods) (Spelled k.Name c.name ⨾ Params c.params ⨾ Throws c.throws ⨾ BlockSpells 64 c.body) (spends-mods of.Ctor c.mods)
     (by-last (Spelled k.Name c.name) (Params c.params ⨾ Throws c.throws ⨾ BlockSpells 64 c.body) (spends-spelled k.Name c.name) (by-call c.params c.throws c.body)) ts rest (t1, mods, s)
 by-class class (member.Main m) ts rest (t1, mods, (t2, void, (same, s))) =
-    by-last (Mods of.Main m.mods) (Mark k.Void ⨾ Spelled k.Name m.name ⨾ Mark k.LParen ⨾ Perhaps k.Final m.final_word ⨾ NameIs string_name ⨾ Mark k.LBracket ⨾ Mark k.RBracket ⨾ Spelled k.Name m.param ⨾ Mark k.RParen ⨾ Throws m.throws ⨾ BlockSpells 64 m.body) (spends-mods of.Main m.mods)
-    (by-last (Mark k.Void) (Spelled k.Name m.name ⨾ Mark k.LParen ⨾ Perhaps k.Final m.final_word ⨾ NameIs string_name ⨾ Mark k.LBracket ⨾ Mark k.RBracket ⨾ Spelled k.Name m.param ⨾ Mark k.RParen ⨾ Throws m.throws ⨾ BlockSpells 64 m.body) (spends-mark k.Void)
-    (by-last (Spelled k.Name m.name) (Mark k.LParen ⨾ Perhaps k.Final m.final_word ⨾ NameIs string_name ⨾ Mark k.LBracket ⨾ Mark k.RBracket ⨾ Spelled k.Name m.param ⨾ Mark k.RParen ⨾ Throws m.throws ⨾ BlockSpells 64 m.body) (spends-spelled k.Name m.name)
-    (by-last (Mark k.LParen) (Perhaps k.Final m.final_word ⨾ NameIs string_name ⨾ Mark k.LBracket ⨾ Mark k.RBracket ⨾ Spelled k.Name m.param ⨾ Mark k.RParen ⨾ Throws m.throws ⨾ BlockSpells 64 m.body) (spends-mark k.LParen)
-    (by-last (Perhaps k.Final m.final_word) (NameIs string_name ⨾ Mark k.LBracket ⨾ Mark k.RBracket ⨾ Spelled k.Name m.param ⨾ Mark k.RParen ⨾ Throws m.throws ⨾ BlockSpells 64 m.body) (spends-perhaps k.Final m.final_word)
-    (by-last (NameIs string_name) (Mark k.LBracket ⨾ Mark k.RBracket ⨾ Spelled k.Name m.param ⨾ Mark k.RParen ⨾ Throws m.throws ⨾ BlockSpells 64 m.body) (spends-name_is string_name)
+    by-last (Mods of.Main m.mods) (Mark k.Void ⨾ Spelled k.Name m.name ⨾ Mark k.LParen ⨾ Optional (Sign k.Final) m.final_word ⨾ Named string_name ⨾ Mark k.LBracket ⨾ Mark k.RBracket ⨾ Spelled k.Name m.param ⨾ Mark k.RParen ⨾ Throws m.throws ⨾ BlockSpells 64 m.body) (spends-mods of.Main m.mods)
+    (by-last (Mark k.Void) (Spelled k.Name m.name ⨾ Mark k.LParen ⨾ Optional (Sign k.Final) m.final_word ⨾ Named string_name ⨾ Mark k.LBracket ⨾ Mark k.RBracket ⨾ Spelled k.Name m.param ⨾ Mark k.RParen ⨾ Throws m.throws ⨾ BlockSpells 64 m.body) (spends-mark k.Void)
+    (by-last (Spelled k.Name m.name) (Mark k.LParen ⨾ Optional (Sign k.Final) m.final_word ⨾ Named string_name ⨾ Mark k.LBracket ⨾ Mark k.RBracket ⨾ Spelled k.Name m.param ⨾ Mark k.RParen ⨾ Throws m.throws ⨾ BlockSpells 64 m.body) (spends-spelled k.Name m.name)
+    (by-last (Mark k.LParen) (Optional (Sign k.Final) m.final_word ⨾ Named string_name ⨾ Mark k.LBracket ⨾ Mark k.RBracket ⨾ Spelled k.Name m.param ⨾ Mark k.RParen ⨾ Throws m.throws ⨾ BlockSpells 64 m.body) (spends-mark k.LParen)
+    (by-last (Optional (Sign k.Final) m.final_word) (Named string_name ⨾ Mark k.LBracket ⨾ Mark k.RBracket ⨾ Spelled k.Name m.param ⨾ Mark k.RParen ⨾ Throws m.throws ⨾ BlockSpells 64 m.body) (spends-perhaps k.Final m.final_word)
+    (by-last (Named string_name) (Mark k.LBracket ⨾ Mark k.RBracket ⨾ Spelled k.Name m.param ⨾ Mark k.RParen ⨾ Throws m.throws ⨾ BlockSpells 64 m.body) (spends-name_is string_name)
     (by-last (Mark k.LBracket) (Mark k.RBracket ⨾ Spelled k.Name m.param ⨾ Mark k.RParen ⨾ Throws m.throws ⨾ BlockSpells 64 m.body) (spends-mark k.LBracket)
     (by-last (Mark k.RBracket) (Spelled k.Name m.param ⨾ Mark k.RParen ⨾ Throws m.throws ⨾ BlockSpells 64 m.body) (spends-mark k.RBracket)
     (by-last (Spelled k.Name m.param) (Mark k.RParen ⨾ Throws m.throws ⨾ BlockSpells 64 m.body) (spends-spelled k.Name m.param)
@@ -173,9 +173,9 @@ by-member sort.Interface name (member.Main m) ts rest none = absurd none
 spends-name-end : (name : List Lexeme) → Spends (Qualified name ⨾ Mark k.Semicolon)
 spends-name-end name = spends-then (Qualified name) (Mark k.Semicolon) (spends-qualified name) (spends-mark k.Semicolon)
 
-spends-import-end : (i : Import) → Spends (Perhaps k.Static i.static_word ⨾ Qualified i.name ⨾ Star i.star ⨾ Mark k.Semicolon)
+spends-import-end : (i : Import) → Spends (Optional (Sign k.Static) i.static_word ⨾ Qualified i.name ⨾ Star i.star ⨾ Mark k.Semicolon)
 spends-import-end i =
-    spends-then (Perhaps k.Static i.static_word) (Qualified i.name ⨾ Star i.star ⨾ Mark k.Semicolon) (spends-perhaps k.Static i.static_word)
+    spends-then (Optional (Sign k.Static) i.static_word) (Qualified i.name ⨾ Star i.star ⨾ Mark k.Semicolon) (spends-perhaps k.Static i.static_word)
     (spends-then (Qualified i.name) (Star i.star ⨾ Mark k.Semicolon) (spends-qualified i.name)
     (spends-then (Star i.star) (Mark k.Semicolon) (spends-star i.star) (spends-mark k.Semicolon)))
 
@@ -183,13 +183,13 @@ pub spends-package : (p : Package) → Spends (PackageSpells p)
 spends-package p = spends-then (Mark k.Package) (Qualified p.name ⨾ Mark k.Semicolon) (spends-mark k.Package) (spends-name-end p.name)
 
 pub spends-import : (i : Import) → Spends (ImportSpells i)
-spends-import i = spends-then (Mark k.Import) (Perhaps k.Static i.static_word ⨾ Qualified i.name ⨾ Star i.star ⨾ Mark k.Semicolon) (spends-mark k.Import) (spends-import-end i)
+spends-import i = spends-then (Mark k.Import) (Optional (Sign k.Static) i.static_word ⨾ Qualified i.name ⨾ Star i.star ⨾ Mark k.Semicolon) (spends-mark k.Import) (spends-import-end i)
 
 by-package : (p : Package) → Shortens (PackageSpells p)
 by-package p = by-first (Mark k.Package) (Qualified p.name ⨾ Mark k.Semicolon) (by-mark k.Package) (spends-name-end p.name)
 
 by-import : (i : Import) → Shortens (ImportSpells i)
-by-import i = by-first (Mark k.Import) (Perhaps k.Static i.static_word ⨾ Qualified i.name ⨾ Star i.star ⨾ Mark k.Semicolon) (by-mark k.Import) (spends-import-end i)
+by-import i = by-first (Mark k.Import) (Optional (Sign k.Static) i.static_word ⨾ Qualified i.name ⨾ Star i.star ⨾ Mark k.Semicolon) (by-mark k.Import) (spends-import-end i)
 
 by-header : (h : Header) → Shortens (HeaderSpells h)
 by-header h ts rest (mid, (s, is), brace) =

@@ -19,6 +19,7 @@ use Rattle.java_heads.proofs.Lists.{sees-kind}
 use Rattle.java_heads.proofs.LineLaws.{package-complete, import-complete}
 use Rattle.java_heads.proofs.Parts.{one-found, one-kept}
 use Rattle.java_heads.proofs.ReaderLemmas.{one_header, sig_tokens, sig-part}
+use Rattle.java_heads.proofs.HeadingLaws.{one_heading}
 use Rattle.java_statements.proofs.ReaderLemmas.{one_block}
 use Rattle.java_members.proofs.Members.{one_member}
 use Rattle.java_reader.specs.Spelling.{TypeMember}
@@ -100,7 +101,7 @@ one-sig (member.Ctor c) other name ts rest other_rest a b = absurd a
 one-sig (member.Main m) other name ts rest other_rest a b = absurd a
 
 pub one-inner : (kind : TypeKind) (name : List ℕ) (one other : MemberTree) (ts rest other_rest : List Token) → TypeMember kind name one ts rest → TypeMember kind name other ts other_rest → (one ≡ other) × (rest ≡ other_rest)
-one-inner sort.Class name one other ts rest other_rest a b = one_member one_block name one other ts rest other_rest a b
+one-inner sort.Class name one other ts rest other_rest a b = one_member one_heading one_block name one other ts rest other_rest a b
 one-inner sort.Interface name one other ts rest other_rest a b = one-sig one other name ts rest other_rest a b
 
 one-at : (stage : Stage) (one other : MemberTree) (ts rest other_rest : List Token) → MemberAt stage one ts rest → MemberAt stage other ts other_rest → (one ≡ other) × (rest ≡ other_rest)

@@ -17,9 +17,9 @@ use Rattle.java_reader.specs.Reads.{first_long_name, IsFaultAt}
 use Rattle.java_reader.specs.Drafts.{stage_of, added}
 
 -- a tree that is spelled, or that none is
-abbrev pub Finds : {A : Type 0} → (A → Phrase) → List Token → Result A SyntaxError → List Token → Type 0
-Finds P ts (Ok x) rest = P x ts rest
-Finds {A} P ts (Err e) rest = e ≢ syntax.OutOfMemory → (x : A) (other : List Token) → P x ts other → ⊥
+abbrev pub FindsAny : {A : Type 0} → (A → Phrase) → List Token → Result A SyntaxError → List Token → Type 0
+FindsAny P ts (Ok x) rest = P x ts rest
+FindsAny {A} P ts (Err e) rest = e ≢ syntax.OutOfMemory → (x : A) (other : List Token) → P x ts other → ⊥
 
 -- one part more of a sort, or that none of the sort stands there
 abbrev pub Adds : {A : Type 0} → (A → Part) → Draft → List Token → Result Draft SyntaxError → List Token → Type 0

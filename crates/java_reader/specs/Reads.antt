@@ -83,9 +83,9 @@ IsCauseOf text error.OutOfMemory = Unit {0}
 -- ---- answers
 
 -- the tree, unless memory ran out
-abbrev pub Gives : Result FileTree ReadError → FileTree → Type 0
-Gives (Ok found) tree = found ≡ tree
-Gives (Err e) tree = e ≡ error.OutOfMemory
+abbrev pub GivesFile : Result FileTree ReadError → FileTree → Type 0
+GivesFile (Ok found) tree = found ≡ tree
+GivesFile (Err e) tree = e ≡ error.OutOfMemory
 
 -- the error, unless memory ran out
 abbrev pub Refuses : Result FileTree ReadError → ReadError → Type 0

@@ -4,7 +4,7 @@ ghost use Rattle.std.specs.Prelude.{◌≡◌};
 ghost use Rattle.java_phrases.specs.Cursor.{ahead};
 ghost use Rattle.java_reader.specs.Spelling.{TypeMember};
 ghost use Rattle.java_reader.specs.Parts.{PackageLine, ImportLine, Opening, Inner, Closing};
-ghost use Rattle.java_reader.specs.Answers.{Finds, Adds, Advances};
+ghost use Rattle.java_reader.specs.Answers.{FindsAny, Adds, Advances};
 ghost use Rattle.java_reader.specs.Drafts as spec;
 
 use desk_base::Name;
@@ -112,7 +112,7 @@ fn member_of(
     kind: TypeKind,
     name: &Name,
 ) -> Result<MemberTree, SyntaxError>
-    ensures { Finds (TypeMember kind name.now) (ahead tokens.old) result (ahead tokens.new) }
+    ensures { FindsAny (TypeMember kind name.now) (ahead tokens.old) result (ahead tokens.new) }
 {
     match kind {
         TypeKind::Class => read_member(alloc, tokens, name),

@@ -7,7 +7,7 @@ ghost use Rattle.java_tree.specs.declared.token.Token.{Token};
 ghost use Rattle.java_tree.specs.declared.file.FileTree.{FileTree};
 ghost use Rattle.java_reader.specs.declared.error.ReadError.{ReadError};
 ghost use Rattle.java_reader.specs.declared.error.ReadError.TheVariants.{OutOfMemory as NoMemory};
-ghost use Rattle.java_reader.specs.Reads.{Reads, Gives, Refuses, IsCauseOf, is_long_name, first_long_name};
+ghost use Rattle.java_reader.specs.Reads.{Reads, GivesFile, Refuses, IsCauseOf, is_long_name, first_long_name};
 ghost use Rattle.java_reader.specs.Answers.{SpellsFit, IsTokenCause};
 
 use crate::error::ReadError;
@@ -72,7 +72,7 @@ fn read_text(alloc: Global, text: &[u8]) -> Result<FileTree, ReadError>
 /// at the text's end.
 pub fn read_file(alloc: Global, text: &[u8]) -> Result<FileTree, ReadError>
     ensures found { IfOk result (Reads text.now) }
-    ensures only { (tree : FileTree) → Reads text.now tree → Gives result tree }
+    ensures only { (tree : FileTree) → Reads text.now tree → GivesFile result tree }
     ensures cause { IfErr result (IsCauseOf text.now) }
     ensures only_cause { (e : ReadError) → IsCauseOf text.now e → e ≢ NoMemory → Refuses result e }
 {

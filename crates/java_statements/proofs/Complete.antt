@@ -22,7 +22,7 @@ use Rattle.java_phrases.specs.Parser.{Found, Parser, same_kind, next_kind, sees,
 use Rattle.java_phrases.proofs.Phrases.{next-sign, next-mark, sign-complete, sign-mark, mark-sign}
 use Rattle.java_phrases.proofs.Loops.{turn_once, turn_ends}
 use Rattle.java_expressions.proofs.Complete.{sees-kind}
-use Rattle.java_statements.specs.Spelling.{ActionSpells, Condition, ForHead, MonitorSpells, ItemSpells, BlockBy, StmtBy, StmtSpells, BlockSpells}
+use Rattle.java_statements.specs.Spelling.{ActionSpells, Condition, ForHeadSpells, MonitorSpells, ItemSpells, BlockBy, StmtBy, StmtSpells, BlockSpells}
 use Rattle.java_statements.specs.Reading.{begins_local_by, begins_local, action_stmt, empty_stmt, returned, block_item, goes_on, one_more, items, block_within, if_stmt, while_stmt, for_stmt, block_stmt, sync_stmt, stmt_by, stmt_within, statement, block}
 use Rattle.java_statements.proofs.Starts.{begins_action, Begins, action-begins, ended-semicolon}
 use Rattle.java_statements.proofs.CompleteParts.{condition-complete, value_if-complete, action_within-complete, declaration-complete, for_head-complete, sync_head-complete}
@@ -186,7 +186,7 @@ module _ (room : ℕ) (inner : Parser Stmt) (known : Stmts-sound room inner) (co
   while-complete at test does closed ts t1 t2 rest s1 s2 s3 h =
       rw (sign-complete k.While ts t1 at s1, condition-complete room test t1 t2 s2, complete closed does t2 rest s3 h) refl
 
-  for-complete : (at : Span) (first : ForFirst) (test : Option Expr) (last : Option Action) (does : Stmt) (closed : Bool) (ts t1 t2 rest : List Token) → Sign k.For at ts t1 → ForHead room first test last t1 t2 → StmtSpells room closed does t2 rest
+  for-complete : (at : Span) (first : ForFirst) (test : Option Expr) (last : Option Action) (does : Stmt) (closed : Bool) (ts t1 t2 rest : List Token) → Sign k.For at ts t1 → ForHeadSpells room first test last t1 t2 → StmtSpells room closed does t2 rest
       → (closed ≡ false → sees k.Else rest ≡ false) → for_stmt room inner ts ≡ Found (tree.For at first test last does) rest
   unfolding for_stmt
   for-complete at first test last does closed ts t1 t2 rest s1 s2 s3 h =

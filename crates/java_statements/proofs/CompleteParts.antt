@@ -24,17 +24,18 @@ use Rattle.java_tree.specs.declared.stmt.ForFirst.TheVariants as first
 use Rattle.java_tree.specs.declared.stmt.Monitor.{Monitor}
 use Rattle.java_tree.specs.declared.stmt.Monitor.TheVariants as monitor
 use Rattle.java_tree.specs.declared.stmt.BlockItem.TheVariants as item
-use Rattle.java_phrases.specs.Phrase.{◌⨾◌, Mark, Sign, Spelled}
+use Rattle.java_phrases.specs.Phrase.{◌⨾◌, Mark, Sign, Spelled, Named, Optional}
 use Rattle.java_phrases.specs.Parser.{Outcome, Found, same_kind, next_kind, kind_at, text_at, sees, sees_text}
 use Rattle.java_phrases.proofs.Phrases.{is_same, next-sign, next-mark, sign-complete, word-complete, sign-mark}
 use Rattle.java_phrases.proofs.TypeLaws.{ty-complete}
 use Rattle.java_expressions.specs.declared.tall.Tall.{Tall}
-use Rattle.java_expressions.specs.Spelling.{Layered, Spells, ExprSpells, thread_name}
-use Rattle.java_expressions.specs.Reading.{tall, expr, post_within, operator}
+use Rattle.java_phrases.specs.Texts.{thread_name}
+use Rattle.java_expressions.specs.Spelling.{Layered, Spells, ExprSpells}
+use Rattle.java_expressions.specs.Reading.{tall, expr, post_read, operator}
 use Rattle.java_expressions.proofs.Sound.{expr-sound}
-use Rattle.java_expressions.proofs.Complete.{Closed, closed-by, sees-kind, Finds, same-tree}
+use Rattle.java_expressions.proofs.Complete.{Closed, closed-by, sees-kind, FindsTall, same-tree}
 use Rattle.java_expressions.proofs.Chains.{expr-complete, post-complete}
-use Rattle.java_statements.specs.Spelling.{Named, Optional, sign_of_assign, sign_of_step, start_name, is_call, is_new, TargetBy, TargetSpells, ActionSpells, LocalSpells, Condition, FirstSpells, ForHead, MonitorSpells, DeclarationSpells}
+use Rattle.java_statements.specs.Spelling.{sign_of_assign, sign_of_step, start_name, is_call, is_new, TargetBy, TargetSpells, ActionSpells, LocalSpells, Condition, FirstSpells, ForHeadSpells, MonitorSpells, DeclarationSpells}
 use Rattle.java_statements.specs.Reading.{named, value, condition, is_target_by, is_target, target, assigned, stepped, called_by, called, posted_by, posted, step_before, start, action_by, action_within, action_read, final_read, local, declaration_within, declaration, for_first, value_if, for_last, for_open, for_test, for_close, for_rest, for_head, class_monitor, monitor_read, sync_head, begins_local, names_class}
 use Rattle.java_statements.proofs.Starts.{begins_value, begins_post, begins_action, Opening, spells-opening, target-opening, ends_action, Ended, ended-semicolon, ended-mark, ended-off, action-begins, local-begins, no_final, dot_class}
 
@@ -69,8 +70,8 @@ condition-complete room e ts rest (t1, m1, (t2, s, m2)) =
 
 -- ---- targets
 
-posts-complete : (limit m : ℕ) (e : Expr) (ts rest : List Token) → m ≤ limit → Spells m 8 e ts rest → sees k.Dot rest ≡ false → sees k.LParen rest ≡ false → Finds m (post_within limit ts) e rest
-unfolding post_within Spells
+posts-complete : (limit m : ℕ) (e : Expr) (ts rest : List Token) → m ≤ limit → Spells m 8 e ts rest → sees k.Dot rest ≡ false → sees k.LParen rest ≡ false → FindsTall m (post_read limit ts) e rest
+unfolding post_read Spells
 posts-complete zero zero e ts rest fits s stop free = absurd s
 posts-complete zero (suc m) e ts rest fits s stop free = absurd (omega arith)
 posts-complete (suc room) zero e ts rest fits s stop free = absurd s
@@ -84,7 +85,7 @@ record FindsTarget (room : ℕ) (outcome : Outcome Tall) (e : Expr) (rest : List
   is : outcome ≡ Found (tall e height) rest
   on : is_target room (tall e height) ≡ true
 
-target_by-found : (room : ℕ) (e : Expr) (f : Expr-F Expr) (ts rest : List Token) → out-Expr e ≡ f → TargetBy room e f ts rest → sees k.Dot rest ≡ false → sees k.LParen rest ≡ false → FindsTarget room (post_within (room + 1) ts) e rest
+target_by-found : (room : ℕ) (e : Expr) (f : Expr-F Expr) (ts rest : List Token) → out-Expr e ≡ f → TargetBy room e f ts rest → sees k.Dot rest ≡ false → sees k.LParen rest ≡ false → FindsTarget room (post_read (room + 1) ts) e rest
 unfolding is_target Spells
 target_by-found room e (Expr-F.Name w) ts rest is s stop free =
     let P : Expr-F Expr → Type 0 = λ g. Layered room (Spells room) 8 g ts rest in
@@ -95,7 +96,7 @@ target_by-found room e (Expr-F.Select from w) ts rest is s stop free =
     record { height = found.height; is = found.is; on = ap (is_target_by room found.height) is ∙ ap not (le-ltb room found.height found.low) }
 target_by-found room e _ ts rest is s stop free = absurd s
 
-target-found : (room : ℕ) (e : Expr) (ts rest : List Token) → TargetSpells room e ts rest → sees k.Dot rest ≡ false → sees k.LParen rest ≡ false → FindsTarget room (post_within (room + 1) ts) e rest
+target-found : (room : ℕ) (e : Expr) (ts rest : List Token) → TargetSpells room e ts rest → sees k.Dot rest ≡ false → sees k.LParen rest ≡ false → FindsTarget room (post_read (room + 1) ts) e rest
 target-found room e ts rest s stop free = target_by-found room e (out-Expr e) ts rest refl s stop free
 
 target-complete : (room : ℕ) (e : Expr) (ts rest : List Token) → TargetSpells room e ts rest → Ended rest → target room ts ≡ Found e rest
@@ -328,7 +329,7 @@ close-complete room v ts mid rest s m =
     let (at, s1) = sign-mark k.RParen mid rest m in
     rw (last-complete room v ts mid rest s m, sign-complete k.RParen mid rest at s1) refl
 
-pub for_head-complete : (room : ℕ) (f : ForFirst) (test : Option Expr) (last : Option Action) (ts rest : List Token) → ForHead room f test last ts rest
+pub for_head-complete : (room : ℕ) (f : ForFirst) (test : Option Expr) (last : Option Action) (ts rest : List Token) → ForHeadSpells room f test last ts rest
     → for_head room ts ≡ Found (record { first = f; test = test; last = last }) rest
 unfolding for_head for_rest
 for_head-complete room f test last ts rest (t1, m1, (t2, s2, (t3, m3, (t4, s4, (t5, m5, (t6, s6, m7)))))) =

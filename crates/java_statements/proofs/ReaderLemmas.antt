@@ -9,7 +9,7 @@ use Rattle.java_phrases.specs.Cursor.{Steps, ahead}
 use Rattle.java_phrases.specs.Parser.{Found, Lost}
 use Rattle.java_statements.specs.Spelling.{BlockSpells}
 use Rattle.java_statements.specs.Reading.{block}
-use Rattle.java_statements.specs.Answers.{Gives}
+use Rattle.java_phrases.specs.Answers.{Gives}
 use Rattle.java_statements.proofs.Sound.{sound}
 use Rattle.java_statements.proofs.Complete.{complete}
 

@@ -23,16 +23,17 @@ use Rattle.java_tree.specs.declared.stmt.Monitor.{Monitor}
 use Rattle.java_tree.specs.declared.stmt.Monitor.TheVariants as monitor
 use Rattle.java_tree.specs.declared.member.Ty.{Ty}
 use Rattle.java_tree.specs.declared.member.Ty.TheVariants as type
-use Rattle.java_phrases.specs.Phrase.{◌⨾◌, Mark, Sign, Spelled}
+use Rattle.java_phrases.specs.Phrase.{◌⨾◌, Mark, Sign, Spelled, Named, Optional}
 use Rattle.java_phrases.specs.Types.{TySpells, ty}
 use Rattle.java_phrases.specs.Parser.{Found, Lost, ◌>>=◌, pure, fail, same_kind, next_kind, sees, sees_text, sign, word}
 use Rattle.java_phrases.proofs.Phrases.{and_then-some, pure-is, sign-sound, word-sound, mark-sign}
 use Rattle.java_phrases.proofs.TypeLaws.{ty-sound}
 use Rattle.java_expressions.specs.declared.tall.Tall.{Tall}
-use Rattle.java_expressions.specs.Spelling.{Layered, Spells, ExprSpells, PostSpells, thread_name}
-use Rattle.java_expressions.specs.Reading.{expr, post_within}
-use Rattle.java_expressions.proofs.Sound.{IsNode, sign-shorter, word-shorter, expr-sound, post_within-sound}
-use Rattle.java_statements.specs.Spelling.{Named, Optional, sign_of_assign, sign_of_step, start_name, is_call, is_new, TargetBy, TargetSpells, ActionSpells, LocalSpells, Condition, FirstSpells, ForHead, MonitorSpells}
+use Rattle.java_phrases.specs.Texts.{thread_name}
+use Rattle.java_expressions.specs.Spelling.{Layered, Spells, ExprSpells, PostSpells}
+use Rattle.java_expressions.specs.Reading.{expr, post_read}
+use Rattle.java_expressions.proofs.Sound.{IsNode, sign-shorter, word-shorter, expr-sound, post_read-sound}
+use Rattle.java_statements.specs.Spelling.{sign_of_assign, sign_of_step, start_name, is_call, is_new, TargetBy, TargetSpells, ActionSpells, LocalSpells, Condition, FirstSpells, ForHeadSpells, MonitorSpells}
 use Rattle.java_statements.specs.declared.head.ForHead.{ForHead as Head}
 use Rattle.java_statements.specs.Reading.{named, value, condition, is_target_by, is_target, target, assigned, stepped, called_by, called, posted_by, posted, step_before, start, created_by, action_by, action_within, action_read, final_by, final_read, local, first_some, first_by, for_first, value_by, value_if, last_by, for_last, for_open, for_test, for_close, for_rest, for_head, class_monitor, monitor_by, monitor_read, sync_head, begins_local, names_class}
 
@@ -115,8 +116,8 @@ target_if room y e ts mid rest false node is f = cc
 target-sound : (room : ℕ) (ts rest : List Token) (e : Expr) → target room ts ≡ Found e rest → TargetSpells room e ts rest × (length rest < length ts)
 unfolding target
 target-sound room ts rest e is =
-    let (y, mid, is1, e1) = and_then-some (post_within (room + 1) ts) _ e rest is in
-    target_if room y e ts mid rest (is_target room y) (post_within-sound (room + 1) ts mid y is1) refl e1
+    let (y, mid, is1, e1) = and_then-some (post_read (room + 1) ts) _ e rest is in
+    target_if room y e ts mid rest (is_target room y) (post_read-sound (room + 1) ts mid y is1) refl e1
 
 assigned_if : (room : ℕ) (y : Tall) (op : AssignOp) (a : Action) (ts mid rest : List Token) (b : Bool) → IsPost room ts y mid → is_target room y ≡ b
     → cond b (sign (sign_of_assign op) >>= (λ at. value room >>= (λ found. pure (action.Assign y.expr op at found)))) fail mid ≡ Found a rest → IsAction room ts a rest
@@ -182,8 +183,8 @@ posted_by-sound room y _ a ts mid rest node e = called-sound room y a ts mid res
 posted-sound : (room : ℕ) (ts rest : List Token) (a : Action) → posted room ts ≡ Found a rest → IsAction room ts a rest
 unfolding posted
 posted-sound room ts rest a e =
-    let (y, mid, is1, e1) = and_then-some (post_within (room + 1) ts) _ a rest e in
-    posted_by-sound room y (next_kind mid) a ts mid rest (post_within-sound (room + 1) ts mid y is1) e1
+    let (y, mid, is1, e1) = and_then-some (post_read (room + 1) ts) _ a rest e in
+    posted_by-sound room y (next_kind mid) a ts mid rest (post_read-sound (room + 1) ts mid y is1) e1
 
 step_before-sound : (room : ℕ) (op : StepOp) (ts rest : List Token) (a : Action) → step_before room op ts ≡ Found a rest → IsAction room ts a rest
 unfolding step_before ActionSpells
@@ -355,17 +356,17 @@ close-sound room ts rest v e =
     pure-is (λ v r. (Optional (ActionSpells room) v ⨾ Mark k.RParen) ts r × (length r < length ts)) x v t2 rest e2 ((t1, s1, mark-sign k.RParen at t1 t2 s2), omega arith)
 
 rest-sound : (room : ℕ) (f : ForFirst) (start ts rest : List Token) (h : Head) → (Mark k.LParen ⨾ FirstSpells room f ⨾ Mark k.Semicolon) start ts × (length ts < length start) → for_rest room f ts ≡ Found h rest
-    → ForHead room h.first h.test h.last start rest × (length rest < length start)
+    → ForHeadSpells room h.first h.test h.last start rest × (length rest < length start)
 unfolding for_rest
 rest-sound room f start ts rest h ((u1, p1, (u2, p2, p3)), l0) e =
     let (v, t1, is1, e1) = and_then-some (for_test room ts) _ h rest e in
     let (last, t2, is2, e2) = and_then-some (for_close room t1) _ h rest e1 in
     let ((u3, q1, q2), l1) = test-sound room ts t1 v is1 in
     let ((u4, r1, r2), l2) = close-sound room t1 t2 last is2 in
-    pure-is (λ h r. ForHead room h.first h.test h.last start r × (length r < length start)) (record { first = f; test = v; last = last }) h t2 rest e2
+    pure-is (λ h r. ForHeadSpells room h.first h.test h.last start r × (length r < length start)) (record { first = f; test = v; last = last }) h t2 rest e2
     ((u1, p1, (u2, p2, (ts, p3, (u3, q1, (t1, q2, (u4, r1, r2)))))), omega arith)
 
-pub for_head-sound : (room : ℕ) (ts rest : List Token) (h : Head) → for_head room ts ≡ Found h rest → ForHead room h.first h.test h.last ts rest × (length rest < length ts)
+pub for_head-sound : (room : ℕ) (ts rest : List Token) (h : Head) → for_head room ts ≡ Found h rest → ForHeadSpells room h.first h.test h.last ts rest × (length rest < length ts)
 unfolding for_head
 for_head-sound room ts rest h e =
     let (f, t1, is1, e1) = and_then-some (for_open room ts) _ h rest e in

@@ -19,14 +19,15 @@ use Rattle.java_tree.specs.declared.stmt.Action.{Action}
 use Rattle.java_tree.specs.declared.stmt.Action.TheVariants as action
 use Rattle.java_tree.specs.declared.member.Ty.{Ty}
 use Rattle.java_tree.specs.declared.member.Ty.TheVariants as type
-use Rattle.java_phrases.specs.Phrase.{Mark, Sign, Spelled}
+use Rattle.java_phrases.specs.Phrase.{Mark, Sign, Spelled, Optional}
 use Rattle.java_phrases.specs.Types.{TySpells}
 use Rattle.java_phrases.specs.Parser.{same_kind, next_kind, kind_at, text_at, sees}
 use Rattle.java_phrases.proofs.Phrases.{same_is, seen, sees-next, next-sign, next-mark, next-word}
-use Rattle.java_expressions.specs.Spelling.{sign_of, level_of, thread_name, Layered, Spells}
+use Rattle.java_phrases.specs.Texts.{thread_name}
+use Rattle.java_expressions.specs.Spelling.{sign_of, level_of, Layered, Spells}
 use Rattle.java_expressions.proofs.Sound.{next-level}
 use Rattle.java_expressions.proofs.Complete.{sees-kind}
-use Rattle.java_statements.specs.Spelling.{Optional, sign_of_assign, sign_of_step, TargetBy, TargetSpells, ActionSpells}
+use Rattle.java_statements.specs.Spelling.{sign_of_assign, sign_of_step, TargetBy, TargetSpells, ActionSpells}
 use Rattle.java_statements.specs.Reading.{begins_local_by, begins_local, names_class_by, names_class}
 
 -- ---- kinds

@@ -25,8 +25,8 @@ use Rattle.java_tree.specs.declared.stmt.BlockItem.{BlockItem}
 use Rattle.java_tree.specs.declared.stmt.BlockItem.TheVariants as item
 use Rattle.java_phrases.specs.Types.{ty}
 use Rattle.java_phrases.specs.Parser.{Parser, Found, Lost, ◌>>=◌, ◌>>◌, pure, fail, next_kind, kind_at, text_at, peek, look, sees, sees_text, sign, word, turns}
-use Rattle.java_expressions.specs.Spelling.{thread_name}
-use Rattle.java_expressions.specs.Reading.{expr, post_within}
+use Rattle.java_phrases.specs.Texts.{thread_name}
+use Rattle.java_expressions.specs.Reading.{expr, post_read}
 use Rattle.java_expressions.specs.declared.tall.Tall.{Tall}
 use Rattle.java_statements.specs.declared.head.ForHead.{ForHead}
 use Rattle.java_statements.specs.Spelling.{sign_of_assign, sign_of_step, start_name}
@@ -86,7 +86,7 @@ is_target room y = is_target_by room y.height (out-Expr y.expr)
 
 unfoldable pub target : ℕ → Parser Expr
 target room = do
-  y ← post_within (room + 1)
+  y ← post_read (room + 1)
   if is_target room y then pure y.expr else fail
 
 unfoldable pub assigned : ℕ → Tall → AssignOp → Parser Action
@@ -120,7 +120,7 @@ posted_by room y _ = called y.expr
 -- an action that begins with an expression
 unfoldable pub posted : ℕ → Parser Action
 posted room = do
-  y ← post_within (room + 1)
+  y ← post_read (room + 1)
   next ← peek
   posted_by room y next
 

@@ -22,20 +22,12 @@ use Rattle.java_tree.specs.declared.stmt.Stmt.{Stmt, out-Stmt}
 use Rattle.java_tree.specs.declared.stmt.Block.{Block, out-Block}
 use Rattle.java_tree.specs.declared.stmt.BlockItem.{BlockItem, out-BlockItem}
 use Rattle.java_tree.specs.declared.stmt.BlockItem.TheOpen.{Stmt-F, BlockItem-F, Block-F}
-use Rattle.java_phrases.specs.Phrase.{Phrase, Nothing, ◌⨾◌, ◌⊢◌, Never, Mark, Sign, Spelled, Each}
+use Rattle.java_phrases.specs.Phrase.{Phrase, Nothing, ◌⨾◌, ◌⊢◌, Never, Mark, Sign, Spelled, Each, Named, Optional}
 use Rattle.java_phrases.specs.Types.{TySpells}
-use Rattle.java_expressions.specs.Spelling.{ExprSpells, PostSpells, thread_name}
+use Rattle.java_phrases.specs.Texts.{thread_name}
+use Rattle.java_expressions.specs.Spelling.{ExprSpells, PostSpells}
 
 -- ---- parts of productions
-
--- a name that is written so
-abbrev pub Named : List ℕ → Phrase
-Named text ts rest = (t : Token) × (ts ≡ t ∷ rest) × (t.kind ≡ k.Name) × (t.bytes ≡ text)
-
--- what stands there, if something does
-abbrev pub Optional : {A : Type 0} → (A → Phrase) → Option A → Phrase
-Optional P None = Nothing
-Optional P (Some x) = P x
 
 abbrev pub sign_of_assign : AssignOp → Kind
 sign_of_assign assign.Set = k.Assign
@@ -100,8 +92,8 @@ FirstSpells room (first.Local local) = LocalSpells room local
 FirstSpells room (first.Action does) = ActionSpells room does
 
 -- "(" [["final"] Ty Name "=" Expr | Action] ";" [Expr] ";" [Action] ")"
-abbrev pub ForHead : ℕ → ForFirst → Option Expr → Option Action → Phrase
-ForHead room first test last =
+abbrev pub ForHeadSpells : ℕ → ForFirst → Option Expr → Option Action → Phrase
+ForHeadSpells room first test last =
     Mark k.LParen ⨾ FirstSpells room first ⨾ Mark k.Semicolon ⨾ Optional (ExprSpells room) test ⨾ Mark k.Semicolon ⨾ Optional (ActionSpells room) last ⨾ Mark k.RParen
 
 -- "(" (Expr | Name "." "class") ")"
@@ -134,7 +126,7 @@ StmtBy room Inner InnerBlock closed (Stmt-F.Action does at) = ActionSpells (suc 
 StmtBy room Inner InnerBlock closed (Stmt-F.If at condition does None) = IsFalse closed ⊢ Sign k.If at ⨾ Condition room condition ⨾ Inner false does
 StmtBy room Inner InnerBlock closed (Stmt-F.If at condition does (Some other)) = Sign k.If at ⨾ Condition room condition ⨾ Inner true does ⨾ Mark k.Else ⨾ Inner closed other
 StmtBy room Inner InnerBlock closed (Stmt-F.While at condition does) = Sign k.While at ⨾ Condition room condition ⨾ Inner closed does
-StmtBy room Inner InnerBlock closed (Stmt-F.For at first test last does) = Sign k.For at ⨾ ForHead room first test last ⨾ Inner closed does
+StmtBy room Inner InnerBlock closed (Stmt-F.For at first test last does) = Sign k.For at ⨾ ForHeadSpells room first test last ⨾ Inner closed does
 StmtBy room Inner InnerBlock closed (Stmt-F.Sync at held block) = Sign k.Synchronized at ⨾ (Mark k.LParen ⨾ MonitorSpells room held ⨾ Mark k.RParen) ⨾ InnerBlock block
 StmtBy room Inner InnerBlock closed (Stmt-F.Return at value end) = Sign k.Return at ⨾ Optional (ExprSpells room) value ⨾ Sign k.Semicolon end
 

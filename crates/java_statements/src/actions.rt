@@ -7,7 +7,7 @@ ghost use Rattle.java_statements.specs.Reading as spec;
 ghost use Rattle.java_phrases.specs.Cursor.{ahead, Steps};
 
 use desk_base::Span;
-use java_expressions::{Tall, expr, post_within};
+use java_expressions::{Tall, expr, post_read};
 use java_phrases::{SyntaxError, Tokens};
 use java_tree::{Action, AssignOp, Expr, Kind, StepOp};
 use std::alloc::Global;
@@ -79,7 +79,7 @@ fn target(alloc: Global, tokens: &mut Tokens, room: u8) -> Result<Expr, SyntaxEr
     requires { room < 255 }
     ensures { Steps (spec.target room) tokens.old result tokens.new }
 {
-    let found = post_within(alloc, tokens, room + 1)?;
+    let found = post_read(alloc, tokens, room + 1)?;
     if !is_target(&found, room) {
         return Err(SyntaxError::NotSpelled);
     }
@@ -133,7 +133,7 @@ fn posted(alloc: Global, tokens: &mut Tokens, room: u8) -> Result<Action, Syntax
     requires { room < 255 }
     ensures { Steps (spec.posted room) tokens.old result tokens.new }
 {
-    let found = post_within(alloc, tokens, room + 1)?;
+    let found = post_read(alloc, tokens, room + 1)?;
     match tokens.peek() {
         Some(Kind::Assign) => assigned(alloc, tokens, room, found, AssignOp::Set),
         Some(Kind::AddAssign) => assigned(alloc, tokens, room, found, AssignOp::Add),

@@ -3,7 +3,7 @@ ghost use Rattle.java_tree.specs.declared.token.Token.{Token};
 ghost use Rattle.java_tree.specs.declared.stmt.Block.{Block};
 ghost use Rattle.java_phrases.specs.Cursor.{ahead, from_start};
 ghost use Rattle.java_statements.specs.Spelling.{BlockSpells};
-ghost use Rattle.java_statements.specs.Answers.{Gives};
+ghost use Rattle.java_phrases.specs.Answers.{Gives};
 
 use crate::statements::block;
 use java_phrases::{SyntaxError, Tokens};

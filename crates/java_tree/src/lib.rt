@@ -13,8 +13,8 @@ pub use expr::{BinaryOp, Expr};
 pub use file::{ClassTree, FileTree, Import, Package, TypeKind};
 pub use kind::Kind;
 pub use member::{
-    Annot, Ctor, Elem, Elements, Field, Init, Main, MemberTree, Method, Mod, ModWord, Param, Sig,
-    Ty,
+    Annot, AnnotLayer, Ctor, Elem, Elements, Field, Init, InnerAnnot, Main, MemberTree, Method,
+    Mod, ModWord, Param, Sig, Ty,
 };
 pub use stmt::{Action, AssignOp, Block, BlockItem, ForFirst, Local, Monitor, StepOp, Stmt};
 pub use token::{Lexeme, Token};

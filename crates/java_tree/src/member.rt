@@ -1,7 +1,7 @@
 use crate::stmt::Block;
 use crate::token::{Lexeme, Token};
 use desk_base::Span;
-use sqlite_items::{Boxed, Items};
+use sqlite_items::Items;
 
 /// A type as it is written.
 #[derive(Drop)]
@@ -23,17 +23,15 @@ pub enum ModWord {
     Synchronized,
 }
 
-/// An annotation: its `@`, the names of its qualified name, and its elements.
-#[cycle(annotations)]
+/// An annotation without those within it: its `@`, the names of its qualified name, and its elements.
 #[derive(Drop)]
-pub struct Annot {
+pub struct AnnotLayer {
     pub at: Span,
     pub name: Items<Lexeme>,
     pub elements: Elements,
 }
 
 /// The elements of an annotation.
-#[cycle(annotations)]
 #[derive(Drop)]
 pub enum Elements {
     /// Nothing stands after the name.
@@ -41,17 +39,33 @@ pub enum Elements {
     /// `()`
     Empty(Span, Span),
     /// One element in parentheses, with the word `value` before it where it is written.
-    One(Span, Option<Lexeme>, Boxed<Elem>, Span),
+    One(Span, Option<Lexeme>, Elem, Span),
     /// Elements in braces in parentheses, with the word `value` before them where it is written.
     Many(Span, Option<Lexeme>, Items<Elem>, Span),
 }
 
-/// One element of an annotation: a string as written, or an annotation.
-#[cycle(annotations)]
+/// One element of an annotation: a string as written, or an annotation, which is kept among the
+/// inner ones of the outermost.
 #[derive(Drop)]
 pub enum Elem {
     Str(Lexeme),
-    Annot(Boxed<Annot>),
+    Annot,
+}
+
+/// An annotation that stands in another one.
+#[derive(Drop)]
+pub struct InnerAnnot {
+    /// In how many annotations it stands, at least one.
+    pub depth: usize,
+    pub layer: AnnotLayer,
+}
+
+/// An annotation, and those within it, however deep, as one list in the order in which they end. So
+/// those that are elements of the annotation itself are the inner ones of depth 1, in written order.
+#[derive(Drop)]
+pub struct Annot {
+    pub layer: AnnotLayer,
+    pub inner: Items<InnerAnnot>,
 }
 
 /// A modifier: an annotation or a word.

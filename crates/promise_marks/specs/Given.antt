@@ -1,14 +1,17 @@
 -- What the annotations of a class give: the kind and the content of each promise annotation, in
 -- written order.
-use Rattle.std.specs.Prelude.{ℕ, ◌+◌, List, [], ◌∷◌, ◌++◌, Option, Some, None, if◌then◌else◌, codes}
+use Rattle.std.specs.Prelude.{ℕ, ◌+◌, ◌==◌, List, [], ◌∷◌, ◌++◌, Option, Some, None, if◌then◌else◌, codes}
 use Rattle.std.specs.List.{flat_map}
 use Rattle.std.specs.Str.{bytes_eq}
 use Rattle.java_tree.specs.declared.token.Lexeme.{Lexeme}
 use Rattle.java_tree.specs.declared.file.ClassTree.{ClassTree}
-use Rattle.java_tree.specs.declared.member.Annot.{Annot, out-Annot}
-use Rattle.java_tree.specs.declared.member.Elements.{Elements, out-Elements}
-use Rattle.java_tree.specs.declared.member.Elem.{Elem, out-Elem}
-use Rattle.java_tree.specs.declared.member.Elem.TheOpen.{Elements-F, Elem-F}
+use Rattle.java_tree.specs.declared.member.Annot.{Annot}
+use Rattle.java_tree.specs.declared.member.AnnotLayer.{AnnotLayer}
+use Rattle.java_tree.specs.declared.member.InnerAnnot.{InnerAnnot}
+use Rattle.java_tree.specs.declared.member.Elements.{Elements}
+use Rattle.java_tree.specs.declared.member.Elements.TheVariants as elements
+use Rattle.java_tree.specs.declared.member.Elem.{Elem}
+use Rattle.java_tree.specs.declared.member.Elem.TheVariants as element
 use Rattle.java_tree.specs.declared.member.Mod.{Mod}
 use Rattle.java_tree.specs.declared.member.Mod.TheVariants as modifier
 use Rattle.java_tree.specs.declared.member.Param.{Param}
@@ -31,27 +34,27 @@ last_name [] = []
 last_name (w ∷ []) = w.text
 last_name (w ∷ v ∷ ws) = last_name (v ∷ ws)
 
-abbrev pub name_of : Annot → List ℕ
-name_of a = last_name (out-Annot a).name
+abbrev pub name_of : AnnotLayer → List ℕ
+name_of a = last_name a.name
 
 -- the elements, in braces or not
-abbrev pub elems_in : Elements-F Elem Elements Annot → List Elem
-elems_in Elements-F.Bare = []
-elems_in (Elements-F.Empty opening closing) = []
-elems_in (Elements-F.One opening value elem closing) = elem ∷ []
-elems_in (Elements-F.Many opening value elems closing) = elems
+abbrev pub elems_in : Elements → List Elem
+elems_in elements.Bare = []
+elems_in (elements.Empty opening closing) = []
+elems_in (elements.One opening value elem closing) = elem ∷ []
+elems_in (elements.Many opening value elems closing) = elems
 
-abbrev pub elems_of : Annot → List Elem
-elems_of a = elems_in (out-Elements (out-Annot a).elements)
+abbrev pub elems_of : AnnotLayer → List Elem
+elems_of a = elems_in a.elements
 
-abbrev pub string_in : Elem-F Elem Elements Annot → Option (List ℕ)
-string_in (Elem-F.Str word) = Some (string_value word.text)
-string_in (Elem-F.Annot a) = None
+abbrev pub string_in : Elem → Option (List ℕ)
+string_in (element.Str word) = Some (string_value word.text)
+string_in element.Annot = None
 
 -- the value of its one string, which is empty where it has no element
 abbrev pub content_of : List Elem → Option (List ℕ)
 content_of [] = Some []
-content_of (e ∷ []) = string_in (out-Elem e)
+content_of (e ∷ []) = string_in e
 content_of (e ∷ d ∷ es) = None
 
 -- what the containers hold
@@ -62,30 +65,30 @@ held_by name =
     if bytes_eq name (codes "Promises") then Some kind.Promise else (
     if bytes_eq name (codes "Assumes") then Some kind.Assume else None)))
 
-abbrev pub given : Option ℕ → PromiseKind → Annot → Given
+abbrev pub given : Option ℕ → PromiseKind → AnnotLayer → Given
 given param k a = record { param = param; kind = k; content = content_of (elems_of a) }
 
 -- an annotation in a container: of the container's kind it counts, else it has no effect
-abbrev pub by_held : Option ℕ → PromiseKind → Annot → List Given
+abbrev pub by_held : Option ℕ → PromiseKind → AnnotLayer → List Given
 by_held param k a = if bytes_eq (name_of a) (kind_text k) then given param k a ∷ [] else []
 
-abbrev pub by_elem : Option ℕ → PromiseKind → Elem-F Elem Elements Annot → List Given
-by_elem param k (Elem-F.Str word) = []
-by_elem param k (Elem-F.Annot a) = by_held param k a
+-- one that stands in another one of the container has none either
+abbrev pub by_inner : Option ℕ → PromiseKind → InnerAnnot → List Given
+by_inner param k inner = if inner.depth == 1 then by_held param k inner.layer else []
 
-abbrev pub by_elems : Option ℕ → PromiseKind → List Elem → List Given
-by_elems param k elems = flat_map (λ e. by_elem param k (out-Elem e)) elems
+abbrev pub by_all : Option ℕ → PromiseKind → List InnerAnnot → List Given
+by_all param k inner = flat_map (by_inner param k) inner
 
 abbrev pub by_container : Option ℕ → Option PromiseKind → Annot → List Given
 by_container param None a = []
-by_container param (Some k) a = by_elems param k (elems_of a)
+by_container param (Some k) a = by_all param k a.inner
 
 abbrev pub by_kind : Option ℕ → Option PromiseKind → Annot → List Given
-by_kind param (Some k) a = given param k a ∷ []
-by_kind param None a = by_container param (held_by (name_of a)) a
+by_kind param (Some k) a = given param k a.layer ∷ []
+by_kind param None a = by_container param (held_by (name_of a.layer)) a
 
 abbrev pub by_annot : Option ℕ → Annot → List Given
-by_annot param a = by_kind param (kind_named (name_of a)) a
+by_annot param a = by_kind param (kind_named (name_of a.layer)) a
 
 abbrev pub by_mod : Option ℕ → Mod → List Given
 by_mod param (modifier.Annot a) = by_annot param a

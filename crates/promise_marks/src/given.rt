@@ -1,12 +1,11 @@
 ghost use Rattle.std.specs.Prelude.{◌≡◌, ◌++◌, IfOk, OnOk};
 ghost use Rattle.std.specs.Option.{option_map};
-ghost use Rattle.java_tree.specs.declared.member.Elem.{out-Elem};
 ghost use Rattle.promise_marks.specs.Given as spec;
 ghost use Rattle.promise_marks.specs.Marks.{IsTree};
 
 use desk_base::{Bytes, OutOfMemory};
 use java_lexer::string_value;
-use java_tree::{Annot, Elem, Elements, Lexeme};
+use java_tree::{AnnotLayer, Elem, Elements, Lexeme};
 use promise_grammar::{PromiseError, PromiseKind, PromiseTree, Shared, read_promise};
 use std::alloc::Global;
 
@@ -20,10 +19,10 @@ fn last_name(words: &[Lexeme]) -> &[u8]
 }
 
 /// The name that an annotation goes by: the last one of its qualified name.
-pub(crate) fn name_of(annot: &Annot) -> &[u8]
-    ensures { result.now ≡ spec.name_of annot.now }
+pub(crate) fn name_of(layer: &AnnotLayer) -> &[u8]
+    ensures { result.now ≡ spec.name_of layer.now }
 {
-    last_name(annot.name.as_slice())
+    last_name(layer.name.as_slice())
 }
 
 /// What the containers hold.
@@ -44,11 +43,11 @@ pub(crate) fn held_by(name: &[u8]) -> Option<PromiseKind>
 }
 
 fn string_in(alloc: Global, elem: &Elem) -> Result<Option<Bytes>, OutOfMemory>
-    ensures { IfOk result (λ value. value ≡ spec.string_in (out-Elem elem.now)) }
+    ensures { IfOk result (λ value. value ≡ spec.string_in elem.now) }
 {
     match elem {
         Elem::Str(word) => Ok(Some(string_value(alloc, word.text.as_slice())?)),
-        Elem::Annot(_) => Ok(None),
+        Elem::Annot => Ok(None),
     }
 }
 
@@ -63,13 +62,13 @@ fn content_in(alloc: Global, elems: &[Elem]) -> Result<Option<Bytes>, OutOfMemor
 }
 
 /// The value of an annotation's one string, which is empty where it has no element.
-pub(crate) fn content_of(alloc: Global, annot: &Annot) -> Result<Option<Bytes>, OutOfMemory>
-    ensures { IfOk result (λ content. content ≡ spec.content_of (spec.elems_of annot.now)) }
+pub(crate) fn content_of(alloc: Global, layer: &AnnotLayer) -> Result<Option<Bytes>, OutOfMemory>
+    ensures { IfOk result (λ content. content ≡ spec.content_of (spec.elems_of layer.now)) }
 {
-    match &annot.elements {
+    match &layer.elements {
         Elements::Bare => Ok(Some(Bytes::new(alloc))),
         Elements::Empty(_, _) => Ok(Some(Bytes::new(alloc))),
-        Elements::One(_, _, elem, _) => string_in(alloc, elem.get()),
+        Elements::One(_, _, elem, _) => string_in(alloc, elem),
         Elements::Many(_, _, elems, _) => content_in(alloc, elems.as_slice()),
     }
 }

@@ -1,12 +1,11 @@
 ghost use Rattle.std.specs.Prelude.{◌≡◌, ◌++◌, [], ◌∷◌, None, Some, IfOk, OnOk};
-ghost use Rattle.java_tree.specs.declared.member.Elem.{out-Elem};
 ghost use Rattle.promise_marks.specs.Given as spec;
 ghost use Rattle.promise_marks.specs.Marks.{AreMarks, IsMark, PutsMarks};
 
 use crate::given::{content_of, held_by, name_of, tree_of};
 use crate::mark::Mark;
 use desk_base::{Items, OutOfMemory};
-use java_tree::{Annot, ClassTree, Elem, Elements, MemberTree, Mod, Param};
+use java_tree::{Annot, AnnotLayer, ClassTree, InnerAnnot, MemberTree, Mod, Param};
 use promise_grammar::PromiseKind;
 use std::alloc::Global;
 
@@ -14,11 +13,11 @@ fn mark_of(
     alloc: Global,
     param: Option<usize>,
     kind: PromiseKind,
-    annot: &Annot,
+    layer: &AnnotLayer,
 ) -> Result<Mark, OutOfMemory>
-    ensures { IfOk result (λ mark. IsMark (spec.given param kind annot.now) mark) }
+    ensures { IfOk result (λ mark. IsMark (spec.given param kind layer.now) mark) }
 {
-    let content = content_of(alloc, annot)?;
+    let content = content_of(alloc, layer)?;
     let tree = tree_of(alloc, kind, &content)?;
     Ok(Mark { param, kind, tree })
 }
@@ -28,29 +27,13 @@ fn put_mark(
     marks: &mut Items<Mark>,
     param: Option<usize>,
     kind: PromiseKind,
-    annot: &Annot,
+    layer: &AnnotLayer,
 ) -> Result<(), OutOfMemory>
-    ensures { OnOk result (PutsMarks marks.old marks.new (spec.given param kind annot.now ∷ [])) }
+    ensures { OnOk result (PutsMarks marks.old marks.new (spec.given param kind layer.now ∷ [])) }
 {
-    let mark = mark_of(alloc, param, kind, annot)?;
+    let mark = mark_of(alloc, param, kind, layer)?;
     marks.push(mark)?;
     Ok(())
-}
-
-// Puts an annotation that stands in a container.
-fn put_elem(
-    alloc: Global,
-    marks: &mut Items<Mark>,
-    param: Option<usize>,
-    kind: PromiseKind,
-    elem: &Elem,
-) -> Result<(), OutOfMemory>
-    ensures { OnOk result (PutsMarks marks.old marks.new (spec.by_elem param kind (out-Elem elem.now))) }
-{
-    match elem {
-        Elem::Str(_) => Ok(()),
-        Elem::Annot(annot) => put_held(alloc, marks, param, kind, annot.get()),
-    }
 }
 
 fn put_held(
@@ -58,30 +41,32 @@ fn put_held(
     marks: &mut Items<Mark>,
     param: Option<usize>,
     kind: PromiseKind,
-    annot: &Annot,
+    layer: &AnnotLayer,
 ) -> Result<(), OutOfMemory>
-    ensures { OnOk result (PutsMarks marks.old marks.new (spec.by_held param kind annot.now)) }
+    ensures { OnOk result (PutsMarks marks.old marks.new (spec.by_held param kind layer.now)) }
 {
-    if name_of(annot) == kind.name().text().as_bytes() {
-        put_mark(alloc, marks, param, kind, annot)
+    if name_of(layer) == kind.name().text().as_bytes() {
+        put_mark(alloc, marks, param, kind, layer)
     } else {
         Ok(())
     }
 }
 
-fn put_elems(
+// Puts an annotation of a container, if it stands in no other one there.
+fn put_inner(
     alloc: Global,
     marks: &mut Items<Mark>,
     param: Option<usize>,
     kind: PromiseKind,
-    elems: &[Elem],
+    inner: &InnerAnnot,
 ) -> Result<(), OutOfMemory>
-    ensures { OnOk result (PutsMarks marks.old marks.new (spec.by_elems param kind elems.now)) }
+    ensures { OnOk result (PutsMarks marks.old marks.new (spec.by_inner param kind inner.now)) }
 {
-    for elem in elems {
-        put_elem(alloc, marks, param, kind, elem)?;
+    if inner.depth == 1 {
+        put_held(alloc, marks, param, kind, &inner.layer)
+    } else {
+        Ok(())
     }
-    Ok(())
 }
 
 // Puts the annotations that stand in a container of this kind.
@@ -90,16 +75,14 @@ fn put_container(
     marks: &mut Items<Mark>,
     param: Option<usize>,
     kind: PromiseKind,
-    annot: &Annot,
+    inner: &[InnerAnnot],
 ) -> Result<(), OutOfMemory>
-    ensures { OnOk result (PutsMarks marks.old marks.new (spec.by_elems param kind (spec.elems_of annot.now))) }
+    ensures { OnOk result (PutsMarks marks.old marks.new (spec.by_all param kind inner.now)) }
 {
-    match &annot.elements {
-        Elements::Bare => Ok(()),
-        Elements::Empty(_, _) => Ok(()),
-        Elements::One(_, _, elem, _) => put_elem(alloc, marks, param, kind, elem.get()),
-        Elements::Many(_, _, elems, _) => put_elems(alloc, marks, param, kind, elems.as_slice()),
+    for annot in inner {
+        put_inner(alloc, marks, param, kind, annot)?;
     }
+    Ok(())
 }
 
 fn put_annot(
@@ -110,11 +93,11 @@ fn put_annot(
 ) -> Result<(), OutOfMemory>
     ensures { OnOk result (PutsMarks marks.old marks.new (spec.by_annot param annot.now)) }
 {
-    let name = name_of(annot);
+    let name = name_of(&annot.layer);
     match PromiseKind::from_text(name) {
-        Some(kind) => put_mark(alloc, marks, param, kind, annot),
+        Some(kind) => put_mark(alloc, marks, param, kind, &annot.layer),
         None => match held_by(name) {
-            Some(kind) => put_container(alloc, marks, param, kind, annot),
+            Some(kind) => put_container(alloc, marks, param, kind, annot.inner.as_slice()),
             None => Ok(()),
         },
     }

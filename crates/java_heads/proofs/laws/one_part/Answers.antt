@@ -2,6 +2,7 @@ use Rattle.java_heads.specs.Spelling.{PackageSpells, ImportSpells, FieldParts, S
 use Rattle.java_heads.specs.Reading.{package_line, import_line, field, signature}
 use Rattle.java_heads.specs.Answers.{field_with, sig_with}
 use Rattle.java_heads.proofs.LineLaws.{package-complete, import-complete}
+use Rattle.java_heads.proofs.HeadingLaws.{one_heading}
 use Rattle.java_heads.proofs.Parts.{one-kept, one-found}
 use Rattle.java_heads.proofs.ReaderLemmas.{field_tokens, field-part, sig_tokens, sig-part, one_header}
 use Rattle.java_heads.proofs.laws.one_part.Goals as goal
@@ -20,3 +21,6 @@ returns-clause-field c = one-kept FieldParts field field_tokens field_with field
 
 pub returns-clause-signature : goal.returns-clause-signature
 returns-clause-signature c = one-kept SigParts signature sig_tokens sig_with sig-part
+
+pub returns-clause-heading : goal.returns-clause-heading
+returns-clause-heading c = one_heading

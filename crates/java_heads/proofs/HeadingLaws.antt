@@ -1,5 +1,5 @@
 -- What reads as the heading of a member is spelled as one, and the reverse.
-use Rattle.std.proofs.Common.{◌≡◌, ℕ, Bool, true, false, cond, ◌&&◌, List, [], ◌∷◌, Option, Some, None, refl, ◌∙◌, sym, subst}
+use Rattle.std.proofs.Common.{◌≡◌, ◌≢◌, ℕ, Bool, true, false, cond, ◌&&◌, List, [], ◌∷◌, Option, Some, None, Result, Ok, Err, IfOk, refl, ap, ◌∙◌, sym, subst}
 use Rattle.std.specs.Str.{bytes_eq}
 use Rattle.std.proofs.lemmas.Slice.Eq.{bytes_eq-Decides}
 use Rattle.desk_base.specs.declared.span.Span.{Span}
@@ -15,47 +15,32 @@ use Rattle.java_tree.specs.declared.member.Ty.{Ty}
 use Rattle.java_tree.specs.declared.member.Ty.TheVariants as tree
 use Rattle.java_tree.specs.declared.member.Param.{Param}
 use Rattle.java_tree.specs.declared.member.Init.{Init}
-use Rattle.java_phrases.specs.Phrase.{Phrase, ◌⨾◌, ◌⊢◌, Mark, Spelled, Each}
-use Rattle.java_phrases.specs.Parser.{Found, ◌>>=◌, pure, fail, next_kind, kind_at, same_kind, sees, sign, word}
+use Rattle.java_phrases.specs.Phrase.{Phrase, ◌⨾◌, ◌⊢◌, Mark, Sign, Spelled, Each, Named, Optional}
+use Rattle.java_phrases.specs.Parser.{Found, Lost, ◌>>=◌, pure, fail, next_kind, kind_at, same_kind, sees, sign, word}
 use Rattle.java_phrases.specs.Types.{TySpells, ty}
+use Rattle.java_phrases.specs.declared.error.SyntaxError.{SyntaxError}
+use Rattle.java_phrases.specs.declared.error.SyntaxError.TheVariants as error
+use Rattle.java_phrases.specs.declared.tokens.Tokens.{Tokens}
+use Rattle.java_phrases.specs.Cursor.{ahead, Steps}
+use Rattle.java_phrases.specs.Answers.{Gives}
 use Rattle.java_phrases.proofs.Phrases.{and_then-some, pure-is, word-sound, word-complete, next-mark, next-word}
 use Rattle.java_phrases.proofs.TypeLaws.{ty-sound, ty-complete}
 use Rattle.java_heads.specs.declared.declaration.Declaration.TheVariants as of
 use Rattle.java_heads.specs.Modifiers.{kind_of, FitsAs}
-use Rattle.java_heads.specs.Spelling.{NameIs, Perhaps, ModSpells, Mods, Params, Throws, ResultSpells, InitPart, FieldParts, string_name}
+use Rattle.java_heads.specs.Spelling.{ModSpells, Mods, Params, Throws, ResultSpells, InitPart, FieldParts, string_name}
 use Rattle.java_heads.specs.Reading.{all_modifiers, fits, parameters, throws, perhaps, named, field_end}
 use Rattle.java_heads.proofs.Lists.{mark-sound, mark-complete, sees-kind}
 use Rattle.java_heads.proofs.ModifierLaws.{all_modifiers-sound, all_modifiers-complete, fits-sound, fits-complete, AfterMods, after-mods}
-use Rattle.java_heads.proofs.ParameterLaws.{ty-follows, ty-no_void, result-follows, parameters-sound, parameters-complete, throws-sound, throws-complete, AfterThrows}
+use Rattle.java_heads.proofs.ParameterLaws.{ty-follows, ty-no_void, result-follows, parameters-sound, parameters-complete, throws-sound, throws-complete, AfterThrows, after-throws}
 use Rattle.java_heads.proofs.MemberLaws.{same_bytes, named-sound, named-complete, name_is, is_name, field_of, field_end-sound, field_end-complete}
 use Rattle.java_heads.proofs.LineLaws.{perhaps-sound, perhaps-complete}
-use Rattle.java_members.specs.declared.heading.Heading.{Heading}
-use Rattle.java_members.specs.declared.heading.Heading.TheVariants as heading
-use Rattle.java_members.specs.declared.heading.MethodHeading.{MethodHeading}
-use Rattle.java_members.specs.declared.heading.CtorHeading.{CtorHeading}
-use Rattle.java_members.specs.declared.heading.MainHeading.{MainHeading}
-use Rattle.java_members.specs.Spelling.{main_name}
-use Rattle.java_members.specs.Reading.{stands, takes_array, calls_name, method_end, main_end, void_by, void_member, constructor, field_member, typed_by, typed_member, unvoid_by, heading_by, member_heading}
-
--- ---- headings
-
-abbrev pub MethodHead : MethodHeading → Phrase
-MethodHead h = Mods of.Method h.mods ⨾ ResultSpells h.result ⨾ Spelled k.Name h.name ⨾ Params h.params ⨾ Throws h.throws
-
-abbrev pub CtorHead : List ℕ → CtorHeading → Phrase
-CtorHead class h = Mods of.Ctor h.mods ⨾ (h.name.text ≡ class) ⊢ Spelled k.Name h.name ⨾ Params h.params ⨾ Throws h.throws
-
-abbrev pub MainHead : MainHeading → Phrase
-MainHead h =
-    Mods of.Main h.mods ⨾ Mark k.Void ⨾ (h.name.text ≡ main_name) ⊢ Spelled k.Name h.name
-    ⨾ Mark k.LParen ⨾ Perhaps k.Final h.final_word ⨾ NameIs string_name ⨾ Mark k.LBracket ⨾ Mark k.RBracket ⨾ Spelled k.Name h.param ⨾ Mark k.RParen
-    ⨾ Throws h.throws
-
-abbrev pub HeadingSpells : List ℕ → Heading → Phrase
-HeadingSpells class (heading.Field f) = FieldParts f
-HeadingSpells class (heading.Method h) = MethodHead h
-HeadingSpells class (heading.Ctor h) = CtorHead class h
-HeadingSpells class (heading.Main h) = MainHead h
+use Rattle.java_heads.specs.declared.heading.Heading.{Heading}
+use Rattle.java_heads.specs.declared.heading.Heading.TheVariants as heading
+use Rattle.java_heads.specs.declared.heading.MethodHeading.{MethodHeading}
+use Rattle.java_heads.specs.declared.heading.CtorHeading.{CtorHeading}
+use Rattle.java_heads.specs.declared.heading.MainHeading.{MainHeading}
+use Rattle.java_heads.specs.Headings.{main_name, MethodHead, CtorHead, MainHead, HeadingSpells, BodyFollows, OneHeading}
+use Rattle.java_heads.specs.HeadingReading.{stands, takes_array, calls_name, method_end, main_end, void_by, void_member, constructor, field_member, typed_by, typed_member, unvoid_by, heading_by, member_heading}
 
 -- ---- what was read is spelled
 
@@ -149,7 +134,7 @@ field_if true class mods y name start t1 t2 ts rest o is s1 s2 s3 e =
     let (f, t4, is4, e4) = and_then-some (field_end mods y name ts) _ o rest e in
     let (value, same, s4) = field_end-sound mods y name ts t4 f is4 in
     pure-is (λ o r. HeadingSpells class o start r) (heading.Field f) o t4 rest e4
-    (subst (λ g. FieldParts g start t4) (sym same) (t1, (fits-sound of.Field mods is, s1), (t2, s2, (ts, s3, s4))))
+    (subst (λ g. HeadingSpells class (heading.Field g) start t4) (sym same) (refl, (t1, (fits-sound of.Field mods is, s1), (t2, s2, (ts, s3, s4)))))
 field_if false class mods y name start t1 t2 ts rest o is s1 s2 s3 e = cc
 
 typed_by-sound : (b : Bool) (class : List ℕ) (mods : List Mod) (y : Ty) (name : Lexeme) (start t1 t2 ts rest : List Token) (o : Heading) → Each ModSpells mods start t1 → TySpells y t1 t2 → Spelled k.Name name t2 ts → typed_by mods y name b ts ≡ Found o rest
@@ -254,7 +239,7 @@ name-calls : (name : Lexeme) (ts t1 rest : List Token) → Spelled k.Name name t
 unfolding calls_name stands kind_at
 name-calls name ts t1 rest (t, e, is, stood) (u, f, was) = rw (e, f, is, was) refl
 
-main-array : (final_word : Option Span) (ts t1 t2 t3 rest : List Token) → Mark k.LParen ts t1 → Perhaps k.Final final_word t1 t2 → NameIs string_name t2 t3 → Mark k.LBracket t3 rest → takes_array ts ≡ true
+main-array : (final_word : Option Span) (ts t1 t2 t3 rest : List Token) → Mark k.LParen ts t1 → Optional (Sign k.Final) final_word t1 t2 → Named string_name t2 t3 → Mark k.LBracket t3 rest → takes_array ts ≡ true
 unfolding takes_array stands kind_at
 main-array None ts t1 t2 t3 rest (t, e, is) none (u, f, was, text) (v, g, so) = let first : t1 ≡ u ∷ t3 = none ∙ f in rw (e, first, g, was, so) refl
 main-array (Some at) ts t1 t2 t3 rest (t, e, is) (u, f, was, stood) (v, g, so, text) (x, h, thus) = rw (e, f, g, h, was, so, thus) refl
@@ -303,7 +288,7 @@ ctor-complete class h ts rest (t1, (fit, s1), (same, (t2, s2, (t3, s3, s4)))) af
 next-name : (ts rest : List Token) (t : Token) → ts ≡ t ∷ rest → t.kind ≡ k.Name → next_kind ts ≡ Some k.Name
 next-name ts rest t e is = next-mark k.Name ts rest (t, e, is)
 
-main_end-complete : (h : MainHeading) (ts t4 t5 t6 t7 t8 t9 u1 rest : List Token) → FitsAs of.Main h.mods → h.name.text ≡ main_name → Mark k.LParen ts t4 → Perhaps k.Final h.final_word t4 t5 → NameIs string_name t5 t6 → Mark k.LBracket t6 t7 → Mark k.RBracket t7 t8
+main_end-complete : (h : MainHeading) (ts t4 t5 t6 t7 t8 t9 u1 rest : List Token) → FitsAs of.Main h.mods → h.name.text ≡ main_name → Mark k.LParen ts t4 → Optional (Sign k.Final) h.final_word t4 t5 → Named string_name t5 t6 → Mark k.LBracket t6 t7 → Mark k.RBracket t7 t8
     → Spelled k.Name h.param t8 t9 → Mark k.RParen t9 u1 → Throws h.throws u1 rest → AfterThrows rest → main_end h.mods h.name ts ≡ Found (heading.Main h) rest
 unfolding main_end
 main_end-complete h ts t4 t5 t6 t7 t8 t9 u1 rest fit same s4 s5 s6 s7 s8 s9 s10 s11 after =
@@ -340,3 +325,36 @@ field-complete class mods y name value ts t1 t2 t3 rest fit s1 s2 s3 s4 =
       fits-complete of.Field mods fit,
       field_end-complete mods y name value t3 rest s4,
     ) refl
+
+-- ---- the public call
+
+body-ends : (rest : List Token) → next_kind rest ≡ Some k.LBrace → AfterThrows rest
+body-ends rest e = after-throws k.LBrace rest e refl refl refl
+
+pub heading-complete : (class : List ℕ) (h : Heading) (ts rest : List Token) → HeadingSpells class h ts rest → BodyFollows h rest → member_heading class ts ≡ Found h rest
+heading-complete class (heading.Field f) ts rest (none, (t1, (fit, s1), (t2, s2, (t3, s3, s4)))) follows =
+    let same : field_of f.mods f.ty f.name f.init ≡ f = λ i. record { mods = f.mods; ty = f.ty; name = f.name; init = f.init; tokens = sym none i } in
+    field-complete class f.mods f.ty f.name f.init ts t1 t2 t3 rest fit s1 s2 s3 s4 ∙ ap (λ g. Found (heading.Field g) rest) same
+heading-complete class (heading.Method h) ts rest s follows = method-complete class h ts rest s (body-ends rest follows)
+heading-complete class (heading.Ctor h) ts rest s follows = ctor-complete class h ts rest s (body-ends rest follows)
+heading-complete class (heading.Main h) ts rest s follows = main-complete class h ts rest s (body-ends rest follows)
+
+pub found_heading : (class : List ℕ) (old new : Tokens) (r : Result Heading SyntaxError) → Steps (member_heading class) old r new → IfOk r (λ h. HeadingSpells class h (ahead old) (ahead new))
+found_heading class old new (Ok h) (e, moved) = heading-sound class (ahead old) (ahead new) h e
+found_heading class old new (Err e) reads = tt
+
+pub only_heading : (class : List ℕ) (old new : Tokens) (r : Result Heading SyntaxError) → Steps (member_heading class) old r new
+    → (h : Heading) (rest : List Token) → HeadingSpells class h (ahead old) rest → BodyFollows h rest → Gives r (ahead new) h rest
+only_heading class old new (Ok x) (e, moved) h rest s follows =
+    let same : Found x (ahead new) ≡ Found h rest = sym e ∙ heading-complete class h (ahead old) rest s follows in
+    (cc, cc)
+only_heading class old new (Err error.NotSpelled) reads h rest s follows =
+    let other : error.NotSpelled ≢ error.OutOfMemory = λ e. cc in
+    let same : Lost ≡ Found h rest = sym (reads other) ∙ heading-complete class h (ahead old) rest s follows in
+    cc
+only_heading class old new (Err error.OutOfMemory) reads h rest s follows = refl
+
+pub one_heading : OneHeading
+one_heading class one other ts rest other_rest s follows s1 follows1 =
+    let same : Found one rest ≡ Found other other_rest = sym (heading-complete class one ts rest s follows) ∙ heading-complete class other ts other_rest s1 follows1 in
+    (cc, cc)

@@ -1,9 +1,14 @@
--- What the functions that read a phrase answer.
+-- What the calls that read a phrase answer.
 use Rattle.std.specs.Prelude.{◌≡◌, ◌≢◌, List, ◌++◌, Result, Ok, Err}
 use Rattle.java_tree.specs.declared.token.Token.{Token}
 use Rattle.java_phrases.specs.declared.error.SyntaxError.{SyntaxError}
 use Rattle.java_phrases.specs.declared.error.SyntaxError.TheVariants as error
 use Rattle.java_phrases.specs.Phrase.{Phrase}
+
+-- this tree with these tokens after it, unless memory ran out
+abbrev pub Gives : {A : Type 0} → Result A SyntaxError → List Token → A → List Token → Type 0
+Gives (Ok found) after x rest = (found ≡ x) × (after ≡ rest)
+Gives (Err why) after x rest = why ≡ error.OutOfMemory
 
 -- the one tree and the one rest that are spelled, unless memory fails, or that none is
 abbrev pub Finds : {A : Type 0} → (A → Phrase) → List Token → Result A SyntaxError → List Token → Type 0

@@ -14,9 +14,9 @@ use Rattle.java_phrases.specs.Types.{ty}
 use Rattle.java_heads.specs.declared.declaration.Declaration.TheVariants as of
 use Rattle.java_heads.specs.Spelling.{string_name}
 use Rattle.java_heads.specs.Reading.{all_modifiers, fits, parameters, throws, perhaps, named, field_end}
-use Rattle.java_members.specs.declared.heading.Heading.{Heading}
-use Rattle.java_members.specs.declared.heading.Heading.TheVariants as heading
-use Rattle.java_members.specs.Spelling.{main_name}
+use Rattle.java_heads.specs.declared.heading.Heading.{Heading}
+use Rattle.java_heads.specs.declared.heading.Heading.TheVariants as heading
+use Rattle.java_heads.specs.Headings.{main_name}
 
 -- whether the token behind so many others is of this kind
 unfoldable pub stands : Kind → ℕ → List Token → Bool

@@ -1,49 +1,55 @@
 //! Members up to their bodies. Which production a member is of is told by the tokens behind its
 //! modifiers.
 
-ghost use Rattle.std.specs.Prelude.{◌≡◌};
-ghost use Rattle.java_phrases.specs.Cursor.{ahead, Steps};
-ghost use Rattle.java_members.specs.Reading as spec;
+ghost use Rattle.std.specs.Prelude.{◌≡◌, List, IfOk, OnOk};
+ghost use Rattle.java_tree.specs.declared.token.Token.{Token};
+ghost use Rattle.java_phrases.specs.Cursor.{ahead, from_start, Steps};
+ghost use Rattle.java_phrases.specs.Answers.{Gives};
+ghost use Rattle.java_heads.specs.Headings.{HeadingSpells, BodyFollows};
+ghost use Rattle.java_heads.specs.HeadingReading as spec;
 
-use desk_base::{Name, Span};
-use java_heads::{
-    Declaration, modifiers_fit, read_all_modifiers, read_field_end, read_named, read_parameters,
-    read_perhaps, read_throws,
-};
+use crate::declaration::Declaration;
+use crate::lines::read_perhaps;
+use crate::member::{read_field_end, read_named};
+use crate::modifiers::{modifiers_fit, read_all_modifiers};
+use crate::parameters::{read_parameters, read_throws};
+use desk_base::{Items, Name, Span};
 use java_phrases::{SyntaxError, Tokens, read_type};
 use java_tree::{Field, Kind, Lexeme, Mod, Param, Ty};
-use sqlite_items::Items;
 use std::alloc::Global;
 
+/// A method up to its body. Its result is `None` for `void`.
 #[derive(Drop)]
-pub(crate) struct MethodHeading {
-    pub(crate) mods: Items<Mod>,
-    pub(crate) result: Option<Ty>,
-    pub(crate) name: Lexeme,
-    pub(crate) params: Items<Param>,
-    pub(crate) throws: Items<Items<Lexeme>>,
+pub struct MethodHeading {
+    pub mods: Items<Mod>,
+    pub result: Option<Ty>,
+    pub name: Lexeme,
+    pub params: Items<Param>,
+    pub throws: Items<Items<Lexeme>>,
 }
 
+/// A constructor up to its body.
 #[derive(Drop)]
-pub(crate) struct CtorHeading {
-    pub(crate) mods: Items<Mod>,
-    pub(crate) name: Lexeme,
-    pub(crate) params: Items<Param>,
-    pub(crate) throws: Items<Items<Lexeme>>,
+pub struct CtorHeading {
+    pub mods: Items<Mod>,
+    pub name: Lexeme,
+    pub params: Items<Param>,
+    pub throws: Items<Items<Lexeme>>,
 }
 
+/// `public static void main(String[] ..)` up to its body.
 #[derive(Drop)]
-pub(crate) struct MainHeading {
-    pub(crate) mods: Items<Mod>,
-    pub(crate) name: Lexeme,
-    pub(crate) final_word: Option<Span>,
-    pub(crate) param: Lexeme,
-    pub(crate) throws: Items<Items<Lexeme>>,
+pub struct MainHeading {
+    pub mods: Items<Mod>,
+    pub name: Lexeme,
+    pub final_word: Option<Span>,
+    pub param: Lexeme,
+    pub throws: Items<Items<Lexeme>>,
 }
 
 /// A member up to its body. A field has none, and is whole but for its tokens.
 #[derive(Drop)]
-pub(crate) enum Heading {
+pub enum Heading {
     Field(Field),
     Method(MethodHeading),
     Ctor(CtorHeading),
@@ -51,7 +57,7 @@ pub(crate) enum Heading {
 }
 
 /// Whether the token behind so many others is of this kind.
-#[tactic(auto, unfolding(crate::specs::Reading::stands))]
+#[tactic(auto, unfolding(crate::specs::HeadingReading::stands))]
 fn stands(tokens: &Tokens, others: usize, kind: Kind) -> bool
     ensures { result ≡ spec.stands kind others (ahead tokens.now) }
 {
@@ -62,7 +68,7 @@ fn stands(tokens: &Tokens, others: usize, kind: Kind) -> bool
 }
 
 /// Whether a parenthesis and an array of a named type stand next.
-#[tactic(auto, unfolding(crate::specs::Reading::takes_array))]
+#[tactic(auto, unfolding(crate::specs::HeadingReading::takes_array))]
 fn takes_array(tokens: &Tokens) -> bool
     ensures { result ≡ spec.takes_array (ahead tokens.now) }
 {
@@ -74,14 +80,14 @@ fn takes_array(tokens: &Tokens) -> bool
 }
 
 /// Whether a name and a parenthesis stand next.
-#[tactic(auto, unfolding(crate::specs::Reading::calls_name))]
+#[tactic(auto, unfolding(crate::specs::HeadingReading::calls_name))]
 fn calls_name(tokens: &Tokens) -> bool
     ensures { result ≡ spec.calls_name (ahead tokens.now) }
 {
     stands(tokens, 0, Kind::Name) && stands(tokens, 1, Kind::LParen)
 }
 
-#[tactic(auto, unfolding(crate::specs::Reading::method_end))]
+#[tactic(auto, unfolding(crate::specs::HeadingReading::method_end))]
 fn method_end(
     alloc: Global,
     tokens: &mut Tokens,
@@ -105,7 +111,7 @@ fn method_end(
     }))
 }
 
-#[tactic(auto, unfolding(crate::specs::Reading::main_end))]
+#[tactic(auto, unfolding(crate::specs::HeadingReading::main_end))]
 fn main_end(
     alloc: Global,
     tokens: &mut Tokens,
@@ -137,7 +143,7 @@ fn main_end(
     }))
 }
 
-#[tactic(auto, unfolding(crate::specs::Reading::void_member))]
+#[tactic(auto, unfolding(crate::specs::HeadingReading::void_member))]
 fn void_member(alloc: Global, tokens: &mut Tokens, mods: Items<Mod>) -> Result<Heading, SyntaxError>
     ensures { Steps (spec.void_member mods) tokens.old result tokens.new }
 {
@@ -150,7 +156,7 @@ fn void_member(alloc: Global, tokens: &mut Tokens, mods: Items<Mod>) -> Result<H
     }
 }
 
-#[tactic(auto, unfolding(crate::specs::Reading::constructor))]
+#[tactic(auto, unfolding(crate::specs::HeadingReading::constructor))]
 fn constructor(
     alloc: Global,
     tokens: &mut Tokens,
@@ -173,7 +179,7 @@ fn constructor(
     }))
 }
 
-#[tactic(auto, unfolding(crate::specs::Reading::field_member))]
+#[tactic(auto, unfolding(crate::specs::HeadingReading::field_member))]
 fn field_member(
     alloc: Global,
     tokens: &mut Tokens,
@@ -189,7 +195,7 @@ fn field_member(
     Ok(Heading::Field(read_field_end(alloc, tokens, mods, ty, name)?))
 }
 
-#[tactic(auto, unfolding(crate::specs::Reading::typed_member))]
+#[tactic(auto, unfolding(crate::specs::HeadingReading::typed_member))]
 fn typed_member(
     alloc: Global,
     tokens: &mut Tokens,
@@ -206,9 +212,8 @@ fn typed_member(
     }
 }
 
-/// A member of the class of this name, up to its body.
-#[tactic(auto, unfolding(crate::specs::Reading::member_heading))]
-pub(crate) fn member_heading(
+#[tactic(auto, unfolding(crate::specs::HeadingReading::member_heading))]
+fn member_heading(
     alloc: Global,
     tokens: &mut Tokens,
     class_name: &Name,
@@ -223,4 +228,19 @@ pub(crate) fn member_heading(
     } else {
         typed_member(alloc, tokens, mods)
     }
+}
+
+/// Reads a member of the class of this name up to its body: a field, which has none, or the heading of
+/// a method, a constructor or `main` (JLS 8, 8.3, 8.4, 8.8, 12.1.4, as far as the subset goes). Where
+/// a heading is spelled that a body follows, or a field, it is found.
+pub fn read_heading(
+    alloc: Global,
+    tokens: &mut Tokens,
+    class_name: &Name,
+) -> Result<Heading, SyntaxError>
+    ensures found { IfOk result (λ h. HeadingSpells class_name.now h (ahead tokens.old) (ahead tokens.new)) }
+    ensures only { (h : Heading) (rest : List Token) → HeadingSpells class_name.now h (ahead tokens.old) rest → BodyFollows h rest → Gives result (ahead tokens.new) h rest }
+    ensures kept { OnOk result (from_start tokens.new ≡ from_start tokens.old) }
+{
+    member_heading(alloc, tokens, class_name)
 }
