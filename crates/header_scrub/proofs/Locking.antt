@@ -14,7 +14,8 @@ use Rattle.scrub_rules.specs.Target.{Kinds}
 use Rattle.scrub_rules.specs.declared.place.Site.{Site}
 use Rattle.header_scrub.specs.Fields.{Fields}
 use Rattle.header_scrub.specs.Locks.{AreLockCodes, IsCodeAfter, code_at, lock_by, lock_given, lock_in, lock_of, locks_in, locks_with}
-use Rattle.header_scrub.specs.Regions.{codes_with, declares, RegionsScrubbed}
+use Rattle.header_scrub.specs.Kinds.{region_kind}
+use Rattle.header_scrub.specs.Regions.{aside_after, codes_with, RegionsScrubbed}
 use Rattle.header_scrub.specs.declared.lock.Lock.{Lock}
 
 -- an element of a list that one was put to
@@ -100,11 +101,16 @@ given_some fields None (Some t) content locks (Some c) is = sym (append-nil lock
 given_some fields None None content locks after is = absurd (cc)
 given_some fields (Some b) tree content locks after is = absurd (cc)
 
--- the codes stay as many as the annotations
+-- the codes are as many as the annotations
 pub codes_long : (site : Site) (marks : List Mark) (aside : List (Option RegionFault)) → length (codes_with site marks aside) ≡ length marks
 codes_long site [] aside = refl
-codes_long site (m ∷ ms) aside = go (declares site m)
-  where
-    go : (b : Bool) → length (if b then _ ∷ codes_with site ms _ else _ ∷ codes_with site ms aside) ≡ suc (length ms)
-    go true = ap (λ (n : ℕ). suc n) (codes_long site ms _)
-    go false = ap (λ (n : ℕ). suc n) (codes_long site ms aside)
+codes_long site (m ∷ ms) aside = ap (λ (n : ℕ). suc n) (codes_long site ms (aside_after site m aside))
+
+-- the codes at what maps say
+pub codes_at : (rs : List RegionDecl) (kinds : Kinds) (known fields : Fields) (marks : List Mark) (before after : List (Option FindingCode))
+    → kinds ≡ region_kind rs → known ≡ fields → AreLockCodes rs kinds known marks before after → AreLockCodes rs (region_kind rs) fields marks before after
+codes_at rs kinds known fields marks before after k f a =
+    subst (λ (z : Kinds). AreLockCodes rs z fields marks before after) k (subst (λ (z : Fields). AreLockCodes rs kinds z marks before after) f a)
+
+pub fits : (site : Site) (marks : List Mark) (regions : List RegionDecl) (codes : List (Option FindingCode)) → RegionsScrubbed site marks regions codes → length codes ≡ length marks
+fits site marks regions codes s = ap length s.coded ∙ codes_long site marks s.aside

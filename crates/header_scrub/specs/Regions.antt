@@ -58,12 +58,18 @@ declares_by _ _ = false
 abbrev pub declares : Site → Mark → Bool
 declares site mark = declares_by (first_code site mark.tree) mark.tree
 
+-- the code of an annotation where the declarations from its own on are set aside so, and those after it
+abbrev pub code_here : Site → Mark → List (Option RegionFault) → Option FindingCode
+code_here site mark aside = if declares site mark then next_fault aside else first_code site mark.tree
+
+abbrev pub aside_after : Site → Mark → List (Option RegionFault) → List (Option RegionFault)
+aside_after site mark aside = if declares site mark then drop 1 aside else aside
+
 -- The codes of annotations whose declarations are set aside so: one that declares a region has the
 -- code of its declaration, any other that of its place and content alone.
 abbrev pub codes_with : Site → List Mark → List (Option RegionFault) → List (Option FindingCode)
 codes_with site [] aside = []
-codes_with site (m ∷ ms) aside =
-    if declares site m then next_fault aside ∷ codes_with site ms (drop 1 aside) else first_code site m.tree ∷ codes_with site ms aside
+codes_with site (m ∷ ms) aside = code_here site m aside ∷ codes_with site ms (aside_after site m aside)
 
 -- The regions that are left, and the codes after those of the others are set.
 pub record RegionsScrubbed (site : Site) (marks : List Mark) (regions : List RegionDecl) (codes : List (Option FindingCode)) : Type 0 where

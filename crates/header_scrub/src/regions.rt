@@ -102,8 +102,34 @@ fn declares(site: Site, mark: &Mark) -> bool
     }
 }
 
-/// The codes of a header's annotations by their places and contents alone, and by those of their
-/// declarations that are set aside.
+// The code of an annotation where the declarations from its own on are set aside so.
+fn code_here(site: Site, mark: &Mark, aside: &[Option<RegionFault>]) -> Option<FindingCode>
+    ensures { result ≡ spec.code_here site mark.now aside.now }
+{
+    if declares(site, mark) {
+        next_fault(aside)
+    } else {
+        first_code(site, &mark.tree)
+    }
+}
+
+// The declarations after those of an annotation.
+fn aside_after<'a>(
+    site: Site,
+    mark: &Mark,
+    aside: &'a [Option<RegionFault>],
+) -> &'a [Option<RegionFault>]
+    ensures { result.now ≡ spec.aside_after site mark.now aside.now }
+{
+    if declares(site, mark) {
+        without_first(aside)
+    } else {
+        aside
+    }
+}
+
+// The codes of a header's annotations by their places and contents alone, and by those of their
+// declarations that are set aside.
 fn region_codes(
     alloc: Global,
     site: Site,
@@ -115,12 +141,8 @@ fn region_codes(
     let mut codes = Items::new(alloc);
     let mut left = aside;
     for mark in marks {
-        if declares(site, mark) {
-            codes.push(next_fault(left))?;
-            left = without_first(left);
-        } else {
-            codes.push(first_code(site, &mark.tree))?;
-        }
+        codes.push(code_here(site, mark, left))?;
+        left = aside_after(site, mark, left);
     }
     Ok(codes)
 }

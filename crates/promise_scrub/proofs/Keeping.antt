@@ -165,16 +165,16 @@ kept_push key js j = same_mk _ _ _ _ _ _ _ _ _ _ _ _ _ _ (number_push js j) (ap 
 abbrev j_of : Bool → PromiseName → Content → Verdict → Judged
 j_of spread name content v = record { annotation = record { spread = spread; name = name; content = content }; verdict = v }
 
-if_none : (b : Bool) → (if b then [] else []) ≡ []
-if_none true = refl
-if_none false = refl
+if_none : (b : Bool) (xs : List Offer) → xs ≡ [] → (if b then [] else xs) ≡ []
+if_none true xs e = refl
+if_none false xs e = e
 
 or_nothing : (b : Bool) → b ≡ (b || false)
 or_nothing true = refl
 or_nothing false = refl
 
 nothing_own : (spread : Bool) (mine : List Offer) → map key_tag mine ≡ map key_tag (mine ++ (if spread then [] else []))
-nothing_own spread mine = ap (map key_tag) (sym (append-nil mine) ∙ ap (λ (z : List Offer). mine ++ z) (sym (if_none spread)))
+nothing_own spread mine = ap (map key_tag) (sym (append-nil mine) ∙ ap (λ (z : List Offer). mine ++ z) (sym (if_none spread [] refl)))
 
 set_aside_same : (key : List ℕ) (js : List Judged) (spread : Bool) (name : PromiseName) (content : Content) (code : FindingCode)
     → put_aside key name code (kept_of key js) ≡ with key js (j_of spread name content (SetAside code))
@@ -239,3 +239,8 @@ all_put key js (a ∷ more) =
 -- the annotations of a unit, one after another
 pub unit_kept : (key : List ℕ) (annotations : List Annotation) → fold (put_annotation key) no_promises annotations ≡ kept_of key (judged annotations)
 unit_kept key annotations = all_put key [] annotations
+
+-- a written annotation keeps all that it offers
+pub all_kept : (own : List (List ℕ)) (offers : List Offer) → kept_offers false own offers ≡ offers
+all_kept own [] = refl
+all_kept own (o ∷ os) = ap (λ (z : List Offer). o ∷ z) (all_kept own os)

@@ -2,5 +2,4 @@ pub mod Facing
 pub mod Gathering
 pub mod Keeping
 pub mod Looking
-pub mod SeenAlike
 pub mod Single

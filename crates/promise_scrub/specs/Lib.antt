@@ -1,4 +1,3 @@
-pub mod Alike
 pub mod Found
 pub mod Members
 pub mod Steps
