@@ -1,5 +1,5 @@
 -- What is kept of annotations that are judged one by one is what they give by their verdicts.
-use Rattle.std.proofs.Common.{◌≡◌, ℕ, zero, suc, ◌+◌, List, [], ◌∷◌, ◌++◌, map, refl, sym, ◌∙◌, ap, subst, Bool, true, false, ◌&&◌, not, append-nil, arith}
+use Rattle.std.proofs.Common.{◌≡◌, ℕ, zero, suc, ◌+◌, List, [], ◌∷◌, ◌++◌, map, refl, sym, ◌∙◌, ap, subst, Bool, true, false, ◌&&◌, not, append-nil, arith, rules}
 use Rattle.std.specs.Prelude.{◌||◌, Option, Some, None, filter, fold, nat_eq, if◌then◌else◌}
 use Rattle.std.specs.List.{flat_map, list_any}
 use Rattle.std.specs.Str.{bytes_eq}
@@ -160,7 +160,8 @@ with key js j = mk (number_in js + counts j.verdict) (map key_tag (own js ++ own
 kept_push : (key : List ℕ) (js : List Judged) (j : Judged) → kept_of key (js ++ j ∷ []) ≡ with key js j
 kept_push key js j = same_mk _ _ _ _ _ _ _ _ _ _ _ _ _ _ (number_push js j) (ap (map key_tag) (flat_push own_offers js j))
     (ap (map form_tag) (flat_push (λ k. offers_in k.verdict) js j)) (ap (map key_tag) (flat_push (λ k. offers_in k.verdict) js j))
-    (standings_push key [] js j) (asides_push key 0 js j) (vouched_push js j)
+    (standings_push key [] js j) (asides_push key 0 js j ∙ ap (λ (k : ℕ). asides key 0 js ++ set_aside_by key k j.annotation.name j.verdict)
+    (let e : (0 + number_in js) + 1 ≡ number_in js + 1 = omega arith in e)) (vouched_push js j)
 
 abbrev j_of : Bool → PromiseName → Content → Verdict → Judged
 j_of spread name content v = record { annotation = record { spread = spread; name = name; content = content }; verdict = v }

@@ -2,4 +2,5 @@ pub mod Facing
 pub mod Gathering
 pub mod Keeping
 pub mod Looking
+pub mod SeenAlike
 pub mod Single
