@@ -159,3 +159,10 @@ pub record AreLockCodes (declared : List RegionDecl) (kinds : Kinds) (fields : F
   pub long : length after ≡ length marks
   pub each : (i : ℕ) (m : Mark) (code : Option FindingCode) → slice_get marks i ≡ Some m → slice_get after i ≡ Some code
       → IsCodeAfter declared kinds fields (locks_in fields (take i marks) (take i after)) (code_at before i) (lock_by (code_at before i) m.tree) code
+
+-- annotation i is a RegionLock that stands, with this content
+pub record StandsAt (marks : List Mark) (codes : List (Option FindingCode)) (i : ℕ) (content : RegionLockContent) : Type 0 where
+  pub mark : Mark
+  pub there : slice_get marks i ≡ Some mark
+  pub stands : slice_get codes i ≡ Some None
+  pub holds : lock_by None mark.tree ≡ Some content

@@ -5,10 +5,12 @@
 mod fields;
 mod header;
 mod kinds;
+mod laws;
 mod lock;
 mod locks;
 mod regions;
 mod table;
 
 pub use header::{ScrubbedHeader, scrub_header};
+pub use laws::{lock_fields_fit, lock_regions_apart, regions_stand};
 pub use lock::Lock;

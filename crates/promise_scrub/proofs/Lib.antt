@@ -1,3 +1,4 @@
+pub mod Differing
 pub mod Facing
 pub mod Gathering
 pub mod Keeping

@@ -1,4 +1,5 @@
 pub mod Alike
+pub mod Differ
 pub mod Found
 pub mod Members
 pub mod Steps

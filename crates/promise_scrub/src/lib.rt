@@ -19,7 +19,7 @@ mod texts;
 mod unit;
 
 pub use class_faces::{FaceTy, FieldFace, MemberFace, ParamFace};
-pub use laws::{one_surface, surfaces_alike};
+pub use laws::{one_surface, standing_keys_differ, surfaces_alike};
 pub use region_tree::RegionDecl;
 pub use scrub::surface_of;
 pub use surface::{Aside, Assumption, Standing, Surface};
