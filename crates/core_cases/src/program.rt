@@ -1,149 +1,125 @@
-use core_model::{
-    Body, Claim, ClassInfo, FieldInfo, Initial, Instr, Known, MAIN, NEW, Note, Op, Plain, Program,
-    RUN, UnitCode, UnitName, Value,
-};
+//! Programs as lines: `class A | FIELDS | MEMBERS`, and `unit KEY CLASS LOCALS | CODE`.
+//!
+//! A field is `x 5`, `static s 7` or `static final k fresh`, the last with a fresh Object; a member is the
+//! number of its name with its count of parameters and the number of its unit, as `main/1 0` or `3/1 2`.
+
+use crate::code::code_of;
+use crate::values::value_of;
+use crate::words::first_word;
+use anyhow::{Context, Result, bail};
+use core_model::{ClassInfo, FieldInfo, Initial, MAIN, NEW, Program, RUN, UnitCode, UnitName};
 use desk_base::{Name, Text};
 use sqlite_items::Items;
 use std::alloc::Global;
-use std::test::Fail;
 
-pub(crate) const NOTE: Note = Note {
-    place: 1,
-    known: Known::Monitor(Claim::Local(0)),
-};
-
-/// The member names of the test programs after `new`, `main` and `run`.
-pub(crate) const GET: u32 = 3;
-
-pub(crate) const LESS: u32 = 4;
-
-const NEW_CODE: [Plain; 3] = [Plain::Get(0), Plain::Get(1), Plain::PutField(0)];
-
-const GET_CODE: [Plain; 5] = [
-    Plain::Get(0),
-    Plain::Field(0),
-    Plain::Get(1),
-    Plain::Op(Op::Add),
-    Plain::ReturnValue,
-];
-
-const LESS_CODE: [Plain; 4] = [
-    Plain::Get(0),
-    Plain::Get(1),
-    Plain::Op(Op::Subtract),
-    Plain::ReturnValue,
-];
-
-const RUN_CODE: [Plain; 3] = [
-    Plain::Get(0),
-    Plain::Const(Value::Int(9)),
-    Plain::PutField(0),
-];
-
-const UNITS: [(u32, u32, u32); 5] = [
-    (MAIN, 1, 0),
-    (NEW, 1, 1),
-    (GET, 1, 2),
-    (LESS, 2, 3),
-    (RUN, 0, 4),
-];
-
-const CODES: [(&str, u32, &[Plain]); 4] = [
-    ("A.new/1", 2, &NEW_CODE),
-    ("A.get/1", 2, &GET_CODE),
-    ("A.less/2", 2, &LESS_CODE),
-    ("A.run/0", 1, &RUN_CODE),
-];
-
-const FIELDS: [(&str, bool, bool, Initial); 4] = [
-    ("s", true, false, Initial::Held(Value::Int(7))),
-    ("k", true, true, Initial::FreshObject),
-    ("x", false, false, Initial::Held(Value::Int(5))),
-    ("l", false, true, Initial::FreshObject),
-];
-
-pub(crate) fn name(alloc: Global, text: &str) -> Result<Name, Fail> {
-    Ok(Name::from_slice(alloc, text.as_bytes())?)
-}
-
-pub(crate) fn code(alloc: Global, plains: &[Plain]) -> Result<Body, Fail> {
-    let mut body = Body::new(alloc);
-    for plain in plains.iter().rev() {
-        body.push(Instr::Do(NOTE, *plain))?;
+// Whether the word stands first, and what is written without it.
+fn without<'a>(written: &'a str, word: &str) -> (bool, &'a str) {
+    match written.strip_prefix(word) {
+        Some(rest) => (true, rest),
+        None => (false, written),
     }
-    Ok(body)
 }
 
-fn fields(alloc: Global) -> Result<Items<FieldInfo>, Fail> {
+fn field_of(alloc: Global, written: &str) -> Result<FieldInfo> {
+    let (is_static, rest) = without(written, "static ");
+    let (is_final, rest) = without(rest, "final ");
+    let (name, initial) = first_word(rest);
+    let initial = match initial {
+        "fresh" => Initial::FreshObject,
+        _ => Initial::Held(value_of(initial)?),
+    };
+    Ok(FieldInfo {
+        name: Name::from_slice(alloc, name.as_bytes())?,
+        is_static,
+        is_final,
+        initial,
+    })
+}
+
+fn member_of(written: &str) -> Result<UnitName> {
+    let (name, rest) = written.split_once('/').context("no count")?;
+    let (params, unit) = first_word(rest);
+    let name = match name {
+        "new" => NEW,
+        "main" => MAIN,
+        "run" => RUN,
+        _ => name.parse::<u32>()?,
+    };
+    Ok(UnitName {
+        name,
+        params: params.parse::<u32>()?,
+        unit: unit.parse::<u32>()?,
+    })
+}
+
+fn fields_of(alloc: Global, written: &str) -> Result<Items<FieldInfo>> {
     let mut fields = Items::new(alloc);
-    for (text, is_static, is_final, initial) in FIELDS {
-        fields.push(FieldInfo {
-            name: name(alloc, text)?,
-            is_static,
-            is_final,
-            initial,
-        })?;
+    for field in written.split(", ") {
+        if !field.is_empty() {
+            fields.push(field_of(alloc, field)?)?;
+        }
     }
     Ok(fields)
 }
 
-fn class(alloc: Global, text: &str, fields: Items<FieldInfo>) -> Result<ClassInfo, Fail> {
-    let mut units = Items::new(alloc);
-    for (name, params, unit) in UNITS {
-        units.push(UnitName { name, params, unit })?;
+fn members_of(alloc: Global, written: &str) -> Result<Items<UnitName>> {
+    let mut members = Items::new(alloc);
+    for member in written.split(", ") {
+        members.push(member_of(member)?)?;
     }
+    Ok(members)
+}
+
+fn class_of(alloc: Global, written: &str) -> Result<ClassInfo> {
+    let (name, rest) = written.split_once(" |").context("no fields")?;
+    let (fields, members) = rest.split_once(" | ").context("no members")?;
     Ok(ClassInfo {
-        name: name(alloc, text)?,
-        fields,
-        units,
+        name: Name::from_slice(alloc, name.as_bytes())?,
+        fields: fields_of(alloc, fields.trim())?,
+        units: members_of(alloc, members)?,
     })
 }
 
-fn classes(alloc: Global) -> Result<Items<ClassInfo>, Fail> {
-    let mut classes = Items::new(alloc);
-    classes.push(class(alloc, "A", fields(alloc)?)?)?;
-    classes.push(class(alloc, "B", Items::new(alloc))?)?;
-    Ok(classes)
-}
-
-fn unit(alloc: Global, key: &str, locals: u32, code: Body) -> Result<UnitCode, Fail> {
+fn unit_of(alloc: Global, written: &str, is_static: bool) -> Result<UnitCode> {
+    let (head, code) = written.split_once(" |").context("no code")?;
+    let (key, rest) = first_word(head);
+    let (class, locals) = first_word(rest);
+    let (class, locals) = (class.parse::<u32>()?, locals.parse::<u32>()?);
+    let key = Text::from_text(alloc, key)?;
     Ok(UnitCode {
-        key: Text::from_text(alloc, key)?,
-        class: 0,
-        is_static: false,
+        key,
+        class,
+        is_static,
         locals,
-        code,
+        code: code_of(alloc, code)?,
     })
 }
 
-fn units(alloc: Global, main: Body) -> Result<Items<UnitCode>, Fail> {
-    let mut units = Items::new(alloc);
-    units.push(unit(alloc, "A.main/1", 3, main)?)?;
-    for (key, locals, plains) in CODES {
-        units.push(unit(alloc, key, locals, code(alloc, plains)?)?)?;
+fn add_line(alloc: Global, program: &mut Program, line: &str) -> Result<()> {
+    let (is_static, rest) = without(line, "static ");
+    let (sort, rest) = first_word(rest);
+    match sort {
+        "class" => program.classes.push(class_of(alloc, rest)?)?,
+        "unit" => program.units.push(unit_of(alloc, rest, is_static)?)?,
+        _ => bail!("no line of a program"),
     }
-    Ok(units)
+    Ok(())
 }
 
-/// The class A has `static int s = 7; final static Object k = new Object(); int x = 5; final Object
-/// l = new Object();`, a constructor that sets x, `int get(int a)` that adds x to a, `static int less(int
-/// a, int b)` that is a - b, and `run` that sets x to 9. Its main has this code. B is like it without
-/// fields.
-pub(crate) fn program(alloc: Global, main: Body) -> Result<Program, Fail> {
-    Ok(Program {
-        classes: classes(alloc)?,
-        units: units(alloc, main)?,
+/// The program that is written so, with the main of the class 0, and with the code in the place of `*`.
+pub(crate) fn program_of(alloc: Global, written: &str, code: &str) -> Result<Program> {
+    let (before, after) = written.split_once('*').context("no place for code")?;
+    let text = format!(in alloc; "{before}{code}{after}")?;
+    let mut program = Program {
+        classes: Items::new(alloc),
+        units: Items::new(alloc),
         mains: Items::from_slice(alloc, &[0])?,
         members: Items::new(alloc),
-    })
+    };
+    for line in text.as_str().lines() {
+        if !line.is_empty() {
+            add_line(alloc, &mut program, line)?;
+        }
+    }
+    Ok(program)
 }
-
-pub(crate) const TAKEN: Plain = Plain::Make(0, 1);
-
-pub(crate) const NULL: Plain = Plain::Const(Value::Null);
-
-pub(crate) const FOUR: Plain = Plain::Const(Value::Int(4));
-
-pub(crate) const FIVE: Plain = Plain::Const(Value::Int(5));
-
-pub(crate) const NINE: Plain = Plain::Const(Value::Int(9));

@@ -1,50 +1,64 @@
-use core_model::{Config, Program, advance, begin, step};
+//! Runs of a program, and what they come to.
+
+use crate::program::program_of;
+use anyhow::Result;
+use core_model::{Access, Config, Obj, Program, Thread, advance, begin, next_access, step};
 use std::alloc::Global;
-use std::process::Abort;
-use std::test::Fail;
 
-fn show_threads(alloc: Global, config: &Config, line: &mut String) -> Result<(), Fail> {
+/// A run as it is written: the program, the code in it, the classes whose mains begin, and the threads that
+/// step, one after another.
+#[derive(Drop)]
+pub(crate) struct Run<'a> {
+    pub(crate) program: &'a str,
+    pub(crate) code: &'a str,
+    pub(crate) mains: &'a str,
+    pub(crate) schedule: &'a str,
+}
+
+fn numbers_of(alloc: Global, written: &str) -> Result<Vec<u32>> {
+    let mut numbers = Vec::new(alloc);
+    if written == "none" {
+        return Ok(numbers);
+    }
+    for number in written.split_whitespace() {
+        numbers.push(number.parse::<u32>()?)?;
+    }
+    Ok(numbers)
+}
+
+fn put_thread(out: &mut String, thread: &Thread) -> Result<()> {
+    write!(out, "{:?}", thread.mode)?;
+    for call in thread.calls.as_slice() {
+        let (locals, temps) = (call.locals.as_slice(), call.temps.as_slice());
+        write!(out, " {}{locals:?}{temps:?}", call.unit)?;
+    }
+    out.push_str("; ")?;
+    Ok(())
+}
+
+fn put_object(out: &mut String, object: &Obj) -> Result<()> {
+    let fields = object.fields.as_slice();
+    write!(out, "{fields:?}")?;
+    if let Some(owner) = object.owner {
+        write!(out, "{owner}*{}", object.count)?;
+    }
+    Ok(())
+}
+
+// Of each thread its mode and then, from the first call on, its unit, locals and temporaries, the top
+// last; of each object its fields, owner and count.
+fn put_config(out: &mut String, config: &Config) -> Result<()> {
     for thread in config.threads.as_slice() {
-        let mode = thread.mode;
-        line.push_str(format!(in alloc; "{mode:?}")?.as_str())?;
-        for call in thread.calls.as_slice() {
-            let unit = call.unit;
-            let locals = call.locals.as_slice();
-            let temps = call.temps.as_slice();
-            line.push_str(format!(in alloc; " {unit}{locals:?}{temps:?}")?.as_str())?;
-        }
-        line.push_str("; ")?;
+        put_thread(out, thread)?;
     }
-    Ok(())
-}
-
-fn show_objects(alloc: Global, config: &Config, line: &mut String) -> Result<(), Fail> {
     for object in config.objects.as_slice() {
-        let fields = object.fields.as_slice();
-        line.push_str(format!(in alloc; "{fields:?}")?.as_str())?;
-        if let Some(owner) = object.owner {
-            let count = object.count;
-            line.push_str(format!(in alloc; "{owner}*{count}")?.as_str())?;
-        }
+        put_object(out, object)?;
     }
     Ok(())
 }
 
-/// A configuration as a line: of each thread its mode and then, from the first call on, its unit,
-/// locals and temporaries, the top last; of each object its fields, owner and count.
-fn shown(alloc: Global, config: &Config) -> Result<String, Fail> {
-    let mut line = String::new(alloc);
-    show_threads(alloc, config, &mut line)?;
-    show_objects(alloc, config, &mut line)?;
-    Ok(line)
-}
-
-pub(crate) fn run_moved(
-    alloc: Global,
-    program: &Program,
-    mains: &[u32],
-    schedule: &[u32],
-) -> Result<Config, Fail> {
+// The state behind a schedule, each step made of the state itself.
+fn moved(alloc: Global, program: &Program, mains: &[u32], schedule: &[u32]) -> Result<Config> {
     let mut config = begin(alloc, program, mains)?;
     for thread in schedule {
         config = advance(alloc, program, config, *thread)?;
@@ -52,12 +66,8 @@ pub(crate) fn run_moved(
     Ok(config)
 }
 
-fn run_copied(
-    alloc: Global,
-    program: &Program,
-    mains: &[u32],
-    schedule: &[u32],
-) -> Result<Config, Fail> {
+// The same, each step made by a copy.
+fn copied(alloc: Global, program: &Program, mains: &[u32], schedule: &[u32]) -> Result<Config> {
     let mut config = begin(alloc, program, mains)?;
     for thread in schedule {
         config = step(alloc, program, &config, *thread)?;
@@ -65,29 +75,58 @@ fn run_copied(
     Ok(config)
 }
 
-/// Runs the schedule, by copies and on the configuration itself, and compares both with the line.
-pub(crate) fn assert_run(
-    rt: &(impl Abort + AllocGlobal),
+fn put_both(
+    alloc: Global,
+    out: &mut String,
     program: &Program,
     mains: &[u32],
     schedule: &[u32],
-    want: &str,
-) -> Result<(), Fail> {
-    let alloc = rt.alloc();
-    let moved = shown(alloc, &run_moved(alloc, program, mains, schedule)?)?;
-    let copied = shown(alloc, &run_copied(alloc, program, mains, schedule)?)?;
-    assert_eq!(rt; moved.as_str(), want);
-    assert_eq!(rt; copied.as_str(), want);
+) -> Result<()> {
+    let mut other = String::new(alloc);
+    put_config(&mut other, &copied(alloc, program, mains, schedule)?)?;
+    let mut line = String::new(alloc);
+    put_config(&mut line, &moved(alloc, program, mains, schedule)?)?;
+    out.push_str(line.as_str())?;
+    if line.as_str() != other.as_str() {
+        write!(out, " but by copies {other}")?;
+    }
     Ok(())
 }
 
-/// Runs so many steps of one thread, and compares what they leave.
-pub(crate) fn assert_steps(
-    rt: &(impl Abort + AllocGlobal),
-    program: &Program,
-    steps: usize,
-    want: &str,
-) -> Result<(), Fail> {
-    let schedule = vec![in rt.alloc(); 0u32; steps]?;
-    assert_run(rt, program, &[0], schedule.as_slice(), want)
+/// The state that the run comes to; both states where steps of a copy come to another one.
+pub(crate) fn put_state(alloc: Global, out: &mut String, run: &Run<'_>) -> Result<()> {
+    let program = program_of(alloc, run.program, run.code)?;
+    let mains = numbers_of(alloc, run.mains)?;
+    let schedule = numbers_of(alloc, run.schedule)?;
+    put_both(alloc, out, &program, mains.as_slice(), schedule.as_slice())
+}
+
+fn put_access(out: &mut String, access: Option<Access>) -> Result<()> {
+    match access {
+        None => out.push_str("none")?,
+        Some(
+            Access {
+                object,
+                field,
+                write,
+            },
+        ) => {
+            let word = if write { "write" } else { "read" };
+            write!(out, "{word} of {object}.{field}")?;
+        }
+    }
+    Ok(())
+}
+
+/// The next access of each of the first three threads behind the run.
+pub(crate) fn put_accesses(alloc: Global, out: &mut String, run: &Run<'_>) -> Result<()> {
+    let program = program_of(alloc, run.program, run.code)?;
+    let mains = numbers_of(alloc, run.mains)?;
+    let schedule = numbers_of(alloc, run.schedule)?;
+    let config = moved(alloc, &program, mains.as_slice(), schedule.as_slice())?;
+    for thread in 0..3 {
+        out.push_str(if thread == 0 { "" } else { "; " })?;
+        put_access(out, next_access(&program, &config, thread))?;
+    }
+    Ok(())
 }

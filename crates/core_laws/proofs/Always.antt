@@ -1,7 +1,7 @@
 -- What holds at each place of code is closed under the ways in which code goes on.
-use Rattle.std.proofs.Common.{◌≡◌, refl, ap}
+use Rattle.std.proofs.Common.{◌≡◌, refl, ap, subst}
 use Rattle.core_model.specs.Code.{Code, Done, Do, If, While, Enter, EnterClass, Exit, ◌⧺◌}
-use Rattle.core_laws.specs.Places.{again, Along, Always}
+use Rattle.core_laws.specs.Places.{again, Along, Always, Here}
 use Rattle.core_laws.proofs.Carried.{IsClosed}
 
 pub join-assoc : (a k m : Code) → (a ⧺ k) ⧺ m ≡ a ⧺ (k ⧺ m)
@@ -23,8 +23,27 @@ along-append P (While n c b s) k m h g =
 along-append P (Enter n b s) k m h g =
     (rw (join-assoc s k m) h.0, λ r. (rw (join-assoc s k m) (h.1 r).0, rw (join-assoc s k m) (h.1 r).1), along-append P s k m h.2 g)
 along-append P (EnterClass n c b s) k m h g =
-    (rw (join-assoc s k m) h.0, λ r. (rw (join-assoc s k m) (h.1 r).0, rw (join-assoc s k m) (h.1 r).1), along-append P s k m h.2 g)
+    (rw (join-assoc s k m) h.0, (rw (join-assoc s k m) h.1.0, rw (join-assoc s k m) h.1.1), along-append P s k m h.2 g)
 along-append P (Exit n r s) k m h g = (rw (join-assoc s k m) h.0, along-append P s k m h.1 g)
+
+join-done : (k : Code) → k ⧺ Done ≡ k
+join-done Done = refl
+join-done (Do n p k) = ap (Do n p) (join-done k)
+join-done (If n a b k) = ap (If n a b) (join-done k)
+join-done (While n c b k) = ap (While n c b) (join-done k)
+join-done (Enter n b k) = ap (Enter n b) (join-done k)
+join-done (EnterClass n c b k) = ap (EnterClass n c b) (join-done k)
+join-done (Exit n r k) = ap (Exit n r) (join-done k)
+
+-- what is always so is so here
+pub always-here : (P : Code → Type 0) (k : Code) → Always P k → Here P k
+always-here P Done h = tt
+always-here P (Do n p k) h = subst (λ (l : Code). P (Do n p l)) (join-done k) h.0
+always-here P (If n a b k) h = subst (λ (l : Code). P (If n a b l)) (join-done k) h.0
+always-here P (While n c b k) h = subst (λ (l : Code). P (While n c b l)) (join-done k) h.0
+always-here P (Enter n b k) h = subst (λ (l : Code). P (Enter n b l)) (join-done k) h.0
+always-here P (EnterClass n c b k) h = subst (λ (l : Code). P (EnterClass n c b l)) (join-done k) h.0
+always-here P (Exit n r k) h = subst (λ (l : Code). P (Exit n r l)) (join-done k) h.0
 
 pub always-closed : (P : Code → Type 0) → IsClosed (Always P)
 always-closed P = record {
@@ -38,6 +57,6 @@ always-closed P = record {
   past_enter = λ n b k h. h.2;
   enter = λ n b k r h. along-append P b (Exit n r k) Done (h.1 r).0 ((h.1 r).1, h.2);
   past_class = λ n c b k h. h.2;
-  enter_class = λ n c b k r h. along-append P b (Exit n r k) Done (h.1 r).0 ((h.1 r).1, h.2);
+  enter_class = λ n c b k h. along-append P b (Exit n c k) Done h.1.0 (h.1.1, h.2);
   exit = λ n r k h. h.1;
 }

@@ -2,7 +2,7 @@
 use Rattle.std.proofs.Common.{◌≡◌, ℕ, zero, suc, ◌+◌, Bool, true, false, List, [], ◌∷◌, ◌++◌, Option, Some, None, if◌then◌else◌, map, length, slice_get, slice_set, nat_lt, nat_le, is_some, take, drop, reverse, refl, sym, ap, ◌∙◌}
 use Rattle.std.specs.Option.{option_map, option_to_list}
 use Rattle.core_model.specs.Code.{Code, Done, Do, If, While, Enter, EnterClass, Exit, ◌⧺◌}
-use Rattle.core_model.specs.Frames.{with_objects, with_temps, with_rest, goes, ends, push_if}
+use Rattle.core_model.specs.Frames.{with_objects, with_temps, with_rest, goes_on, ends, push_if}
 use Rattle.core_model.specs.Straight.{set_from, with_local, drop_from, read, field_from, keep_from, write, put_on, put_from, put_static_from, operate_from, neg_from, not_from, return_value_from, branch_from, turn}
 use Rattle.core_model.specs.Calling.{begins, construct, make_of, make_from, receiver, call_in, call_at, call_on, call_from, call_static_from, start_with, start_in, start_from}
 use Rattle.core_model.specs.Monitors.{take_monitor, enter_from, enter_class}
@@ -10,11 +10,12 @@ use Rattle.core_model.specs.Objects.{entered, field_at, with_field, changed, cla
 use Rattle.core_model.specs.Operators.{operated}
 use Rattle.core_model.specs.Units.{unit_number, call_for, call_of}
 use Rattle.core_model.specs.Begin.{begun_objects, begin, begun_thread, main_thread}
-use Rattle.core_model.specs.Step.{do_plain, given, with_given, left, dropped, next, next_exit, leave, unwind, move, moved, put, step_of, step, run}
+use Rattle.core_model.specs.Step.{do_plain, given, with_given, resumed, caller_ended, running_step, next_exit, leaving_step, ending_step, call_step, thread_step, with_step, step_of, step, run}
 use Rattle.core_model.specs.declared.instr.Note.{Note}
 use Rattle.core_model.specs.declared.instr.Op.{Op}
 use Rattle.core_model.specs.declared.instr.Plain.{Plain}
 use Rattle.core_model.specs.declared.instr.Plain.TheVariants as plain
+use Rattle.core_model.specs.declared.program.TheConstants.{NEW, MAIN, RUN}
 use Rattle.core_model.specs.declared.program.Program.{Program}
 use Rattle.core_model.specs.declared.program.ClassInfo.{ClassInfo}
 use Rattle.core_model.specs.declared.program.UnitCode.{UnitCode}
@@ -95,7 +96,7 @@ bare-push_if f (Some v) = refl
 
 bare-set : (f : Frame) (i : ℕ) (ts : List Value) → bare_after (set_from f i ts) ≡ set_from (bare_frame f) i ts
 bare-set f i [] = refl
-bare-set f i (v ∷ ts) = bare-if (nat_lt i (length f.call.locals)) (goes (with_local (with_temps f ts) i v)) (ends f)
+bare-set f i (v ∷ ts) = bare-if (nat_lt i (length f.call.locals)) (goes_on (with_local (with_temps f ts) i v)) (ends f)
 
 bare-drop : (f : Frame) (ts : List Value) → bare_after (drop_from f ts) ≡ drop_from (bare_frame f) ts
 bare-drop f [] = refl
@@ -122,7 +123,7 @@ bare-keep f i (value.Ref r ∷ ts) = bare-read (with_temps f (value.Ref r ∷ ts
 
 bare-write : (f : Frame) (r i : ℕ) (v : Value) → bare_after (write f r i v) ≡ write (bare_frame f) r i v
 bare-write f r i v =
-    bare-if (is_some (field_at f.objects r i)) (goes (with_objects f (changed f.objects r (λ o. with_field o i v)))) (ends f)
+    bare-if (is_some (field_at f.objects r i)) (goes_on (with_objects f (changed f.objects r (λ o. with_field o i v)))) (ends f)
 
 bare-put_on : (f : Frame) (i : ℕ) (v : Value) (ts : List Value) → bare_after (put_on f i v ts) ≡ put_on (bare_frame f) i v ts
 bare-put_on f i v [] = refl
@@ -194,7 +195,7 @@ bare-make_of : (p : Program) (f : Frame) (c n : ℕ) (args : List Value) (o : Op
     → bare_after (make_of p f c n args o) ≡ make_of (bare_program p) (bare_frame f) c n args o
 bare-make_of p f c n args None = refl
 bare-make_of p f c n args (Some info) =
-    bare-construct p (with_objects f (made f.objects c info.fields)) (length f.objects) args (unit_number p c 0 n)
+    bare-construct p (with_objects f (made f.objects c info.fields)) (length f.objects) args (unit_number p c NEW n)
 
 bare-make : (p : Program) (f : Frame) (c n : ℕ) (ts : List Value)
     → bare_after (make_from p f c n ts) ≡ make_from (bare_program p) (bare_frame f) c n ts
@@ -235,8 +236,8 @@ bare-start_in : (p : Program) (f : Frame) (v : Value) (o : Option ℕ)
     → bare_after (start_in p f v o) ≡ start_in (bare_program p) (bare_frame f) v o
 bare-start_in p f v None = refl
 bare-start_in p f v (Some c) =
-    bare-start_with f (call_of p (unit_number p c 2 0) (v ∷ []) _)
-    ∙ ap (start_with (bare_frame f)) (bare-call_of p (unit_number p c 2 0) (v ∷ []) _)
+    bare-start_with f (call_of p (unit_number p c RUN 0) (v ∷ []) _)
+    ∙ ap (start_with (bare_frame f)) (bare-call_of p (unit_number p c RUN 0) (v ∷ []) _)
 
 bare-start : (p : Program) (f : Frame) (ts : List Value) → bare_after (start_from p f ts) ≡ start_from (bare_program p) (bare_frame f) ts
 bare-start p f [] = refl
@@ -272,22 +273,22 @@ bare-plain p f plain.ReturnValue = bare-return_value f f.call.temps
 bare-branch : (f : Frame) (a b : Code) (ts : List Value) → bare_after (branch_from f a b ts) ≡ branch_from (bare_frame f) (bare a) (bare b) ts
 bare-branch f a b [] = refl
 bare-branch f a b (value.Int x ∷ ts) = refl
-bare-branch f a b (value.Bool true ∷ ts) = ap (λ k. goes (with_temps (with_rest (bare_frame f) k) ts)) (bare-append a f.call.rest)
-bare-branch f a b (value.Bool false ∷ ts) = ap (λ k. goes (with_temps (with_rest (bare_frame f) k) ts)) (bare-append b f.call.rest)
+bare-branch f a b (value.Bool true ∷ ts) = ap (λ k. goes_on (with_temps (with_rest (bare_frame f) k) ts)) (bare-append a f.call.rest)
+bare-branch f a b (value.Bool false ∷ ts) = ap (λ k. goes_on (with_temps (with_rest (bare_frame f) k) ts)) (bare-append b f.call.rest)
 bare-branch f a b (value.Str s ∷ ts) = refl
 bare-branch f a b (value.Null ∷ ts) = refl
 bare-branch f a b (value.Ref r ∷ ts) = refl
 
 bare-turn : (f : Frame) (n : Note) (c b : Code) → bare_after (turn f n c b) ≡ turn (bare_frame f) blank (bare c) (bare b)
 bare-turn f n c b =
-    ap (λ k. goes (with_rest (bare_frame f) k))
+    ap (λ k. goes_on (with_rest (bare_frame f) k))
     (bare-append c (If n (b ⧺ While n c b Done) Done f.call.rest)
     ∙ ap (λ k. bare c ⧺ If blank k Done (bare f.call.rest)) (bare-append b (While n c b Done)))
 
 bare-take : (t : ℕ) (f : Frame) (n : Note) (b : Code) (r : ℕ) (o : Option Obj)
     → bare_after (take_monitor t f n b r o) ≡ take_monitor t (bare_frame f) blank (bare b) r o
 bare-take t f n b r None = refl
-bare-take t f n b r (Some o) = ap (λ k. goes (with_rest (with_objects (bare_frame f) (changed f.objects r (entered t))) k)) (bare-append b (Exit n r f.call.rest))
+bare-take t f n b r (Some o) = ap (λ k. goes_on (with_rest (with_objects (bare_frame f) (changed f.objects r (entered t))) k)) (bare-append b (Exit n r f.call.rest))
 
 bare-enter : (t : ℕ) (f : Frame) (n : Note) (b : Code) (ts : List Value)
     → bare_after (enter_from t f n b ts) ≡ enter_from t (bare_frame f) blank (bare b) ts
@@ -297,19 +298,19 @@ bare-enter t f n b (value.Bool c ∷ ts) = refl
 bare-enter t f n b (value.Str s ∷ ts) = refl
 bare-enter t f n b (value.Null ∷ ts) = refl
 bare-enter t f n b (value.Ref r ∷ ts) =
-    bare-if (blocks t (slice_get f.objects r)) (goes (with_temps (with_rest f (Enter n b f.call.rest)) (value.Ref r ∷ ts)))
+    bare-if (blocks t (slice_get f.objects r)) (goes_on (with_temps (with_rest f (Enter n b f.call.rest)) (value.Ref r ∷ ts)))
     (take_monitor t (with_temps f ts) n b r (slice_get f.objects r))
     ∙ ap (λ (a : After). if blocks t (slice_get f.objects r)
-    then goes (with_temps (with_rest (bare_frame f) (Enter blank (bare b) (bare f.call.rest))) (value.Ref r ∷ ts)) else a)
+    then goes_on (with_temps (with_rest (bare_frame f) (Enter blank (bare b) (bare f.call.rest))) (value.Ref r ∷ ts)) else a)
     (bare-take t (with_temps f ts) n b r (slice_get f.objects r))
 
 bare-enter_class : (t : ℕ) (f : Frame) (n : Note) (c : ℕ) (b : Code)
     → bare_after (enter_class t f n c b) ≡ enter_class t (bare_frame f) blank c (bare b)
 bare-enter_class t f n c b =
-    bare-if (blocks t (slice_get f.objects c)) (goes (with_rest f (EnterClass n c b f.call.rest)))
+    bare-if (blocks t (slice_get f.objects c)) (goes_on (with_rest f (EnterClass n c b f.call.rest)))
     (take_monitor t f n b c (slice_get f.objects c))
     ∙ ap (λ (a : After). if blocks t (slice_get f.objects c)
-    then goes (with_rest (bare_frame f) (EnterClass blank c (bare b) (bare f.call.rest))) else a)
+    then goes_on (with_rest (bare_frame f) (EnterClass blank c (bare b) (bare f.call.rest))) else a)
     (bare-take t f n b c (slice_get f.objects c))
 
 -- ---- leaving
@@ -318,16 +319,16 @@ bare-given : (c : Call) (o : Option Value) → bare_call (with_given c o) ≡ wi
 bare-given c None = refl
 bare-given c (Some v) = refl
 
-bare-left : (os : List Obj) (o : Option Value) (cs : List Call) → bare_after (left os o cs) ≡ left os o (map bare_call cs)
+bare-left : (os : List Obj) (o : Option Value) (cs : List Call) → bare_after (resumed os o cs) ≡ resumed os o (map bare_call cs)
 bare-left os o [] = refl
 bare-left os o (c ∷ cs) =
     ap (λ (d : Call). record { objects = os; calls = d ∷ map bare_call cs; mode = mode.Running; started = None }) (bare-given c o)
 
-bare-dropped : (os : List Obj) (cs : List Call) → bare_after (dropped os cs) ≡ dropped os (map bare_call cs)
+bare-dropped : (os : List Obj) (cs : List Call) → bare_after (caller_ended os cs) ≡ caller_ended os (map bare_call cs)
 bare-dropped os [] = refl
 bare-dropped os (c ∷ cs) = refl
 
-bare-next : (p : Program) (t : ℕ) (f : Frame) (k : Code) → bare_after (next p t f k) ≡ next (bare_program p) t (bare_frame f) (bare k)
+bare-next : (p : Program) (t : ℕ) (f : Frame) (k : Code) → bare_after (running_step p t f k) ≡ running_step (bare_program p) t (bare_frame f) (bare k)
 bare-next p t f Done = bare-left f.objects (given f.call.gives None) f.below
 bare-next p t f (Do n i k) = bare-plain p (with_rest f k) i
 bare-next p t f (If n a b k) = bare-branch (with_rest f k) a b f.call.temps
@@ -336,29 +337,29 @@ bare-next p t f (Enter n b k) = bare-enter t (with_rest f k) n b f.call.temps
 bare-next p t f (EnterClass n c b k) = bare-enter_class t (with_rest f k) n c b
 bare-next p t f (Exit n r k) = refl
 
-bare-leave : (f : Frame) (v : Option Value) (o : Option (ℕ × Code)) → bare_after (leave f v o) ≡ leave (bare_frame f) v (bare_exit o)
+bare-leave : (f : Frame) (v : Option Value) (o : Option (ℕ × Code)) → bare_after (leaving_step f v o) ≡ leaving_step (bare_frame f) v (bare_exit o)
 bare-leave f v None = bare-left f.objects (given f.call.gives v) f.below
 bare-leave f v (Some (r, k)) = refl
 
-bare-unwind : (f : Frame) (o : Option (ℕ × Code)) → bare_after (unwind f o) ≡ unwind (bare_frame f) (bare_exit o)
+bare-unwind : (f : Frame) (o : Option (ℕ × Code)) → bare_after (ending_step f o) ≡ ending_step (bare_frame f) (bare_exit o)
 bare-unwind f None = bare-dropped f.objects f.below
 bare-unwind f (Some (r, k)) = refl
 
-bare-move : (p : Program) (t : ℕ) (f : Frame) (m : Mode) → bare_after (move p t f m) ≡ move (bare_program p) t (bare_frame f) m
+bare-move : (p : Program) (t : ℕ) (f : Frame) (m : Mode) → bare_after (call_step p t f m) ≡ call_step (bare_program p) t (bare_frame f) m
 bare-move p t f mode.Running = bare-next p t f f.call.rest
 bare-move p t f (mode.Leaving v) =
-    bare-leave f v (next_exit f.call.rest) ∙ ap (leave (bare_frame f) v) (sym (bare-next_exit f.call.rest))
-bare-move p t f mode.Ending = bare-unwind f (next_exit f.call.rest) ∙ ap (unwind (bare_frame f)) (sym (bare-next_exit f.call.rest))
+    bare-leave f v (next_exit f.call.rest) ∙ ap (leaving_step (bare_frame f) v) (sym (bare-next_exit f.call.rest))
+bare-move p t f mode.Ending = bare-unwind f (next_exit f.call.rest) ∙ ap (ending_step (bare_frame f)) (sym (bare-next_exit f.call.rest))
 bare-move p t f mode.Over = refl
 
 bare-moved : (p : Program) (t : ℕ) (os : List Obj) (h : Thread) (cs : List Call)
-    → bare_after (moved p t os h cs) ≡ moved (bare_program p) t os (bare_thread h) (map bare_call cs)
+    → bare_after (thread_step p t os h cs) ≡ thread_step (bare_program p) t os (bare_thread h) (map bare_call cs)
 bare-moved p t os h [] = refl
 bare-moved p t os h (c ∷ cs) = bare-move p t (record { objects = os; call = c; below = cs }) h.mode
 
 -- ---- configurations
 
-bare-put_back : (c : Config) (t : ℕ) (a : After) → bare_config (put c t a) ≡ put (bare_config c) t (bare_after a)
+bare-put_back : (c : Config) (t : ℕ) (a : After) → bare_config (with_step c t a) ≡ with_step (bare_config c) t (bare_after a)
 bare-put_back c t a =
     let now : Thread = record { calls = a.calls; mode = a.mode } in
     ap (λ (ts : List Thread). record { objects = a.objects; threads = ts })
@@ -370,7 +371,7 @@ bare-step_of : (p : Program) (c : Config) (t : ℕ) (o : Option Thread)
     → bare_config (step_of p c t o) ≡ step_of (bare_program p) (bare_config c) t (option_map bare_thread o)
 bare-step_of p c t None = refl
 bare-step_of p c t (Some h) =
-    bare-put_back c t (moved p t c.objects h h.calls) ∙ ap (put (bare_config c) t) (bare-moved p t c.objects h h.calls)
+    bare-put_back c t (thread_step p t c.objects h h.calls) ∙ ap (with_step (bare_config c) t) (bare-moved p t c.objects h h.calls)
 
 bare-step : (p : Program) (c : Config) (t : ℕ) → bare_config (step p c t) ≡ step (bare_program p) (bare_config c) t
 bare-step p c t =
@@ -388,8 +389,8 @@ bare-main (Some c) = refl
 
 bare-begun : (p : Program) (c : ℕ) → bare_thread (begun_thread p c) ≡ begun_thread (bare_program p) c
 bare-begun p c =
-    bare-main (call_of p (unit_number p c 1 1) (value.Null ∷ []) _)
-    ∙ ap main_thread (bare-call_of p (unit_number p c 1 1) (value.Null ∷ []) _)
+    bare-main (call_of p (unit_number p c MAIN 1) (value.Null ∷ []) _)
+    ∙ ap main_thread (bare-call_of p (unit_number p c MAIN 1) (value.Null ∷ []) _)
 
 bare-mains : (p : Program) (mains : List ℕ) → map bare_thread (map (begun_thread p) mains) ≡ map (begun_thread (bare_program p)) mains
 bare-mains p [] = refl

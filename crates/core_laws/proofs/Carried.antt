@@ -1,34 +1,19 @@
 -- What is closed under the ways in which code goes on holds of what is left of each call, in every run.
-use Rattle.std.proofs.Common.{◌≡◌, ℕ, true, false, List, [], ◌∷◌, Option, Some, None, map, slice_get, slice_set, refl}
-use Rattle.std.specs.Option.{option_to_list}
+use Rattle.std.proofs.Common.{◌≡◌, ℕ, List, Option, Some, None, slice_get, ap, subst}
 use Rattle.core_model.specs.Code.{Code, Done, Do, If, While, Enter, EnterClass, Exit, ◌⧺◌}
-use Rattle.core_model.specs.Frames.{with_temps, with_rest, after, ends}
-use Rattle.core_model.specs.Straight.{branch_from}
-use Rattle.core_model.specs.Calling.{begins, start_with}
-use Rattle.core_model.specs.Monitors.{take_monitor, enter_from, enter_class}
-use Rattle.core_model.specs.Objects.{blocks}
-use Rattle.core_model.specs.Units.{unit_number, call_for, call_of}
-use Rattle.core_model.specs.Begin.{begin, begun_thread, main_thread}
-use Rattle.core_model.specs.Step.{given, with_given, left, dropped, next, next_exit, leave, unwind, move, moved, step_of, step, run}
+use Rattle.core_model.specs.Begin.{begin}
+use Rattle.core_model.specs.Step.{with_given, next_exit, step, run}
 use Rattle.core_model.specs.declared.instr.Note.{Note}
 use Rattle.core_model.specs.declared.instr.Plain.{Plain}
+use Rattle.core_model.specs.declared.instr.Plain.TheVariants as plain
 use Rattle.core_model.specs.declared.program.Program.{Program}
 use Rattle.core_model.specs.declared.program.UnitCode.{UnitCode}
 use Rattle.core_model.specs.declared.config.Call.{Call}
 use Rattle.core_model.specs.declared.config.Config.{Config}
 use Rattle.core_model.specs.declared.config.Thread.{Thread}
-use Rattle.core_model.specs.declared.config.Gives.{Gives}
-use Rattle.core_model.specs.declared.config.Gives.TheVariants.{Own}
-use Rattle.core_model.specs.declared.config.Mode.{Mode}
-use Rattle.core_model.specs.declared.config.Mode.TheVariants as mode
-use Rattle.core_model.specs.declared.frame.Frame.{Frame}
-use Rattle.core_model.specs.declared.frame.After.{After}
-use Rattle.core_model.specs.declared.object.Obj.{Obj}
 use Rattle.core_model.specs.declared.value.Value.{Value}
-use Rattle.core_model.specs.declared.value.Value.TheVariants as value
 use Rattle.core_laws.specs.Places.{again, Each, EveryCall}
-use Rattle.core_laws.proofs.Plains.{IsKeeping, kept-plain, kept-if}
-use Rattle.core_laws.proofs.Lists.{each-get, each-set, each-append}
+use Rattle.core_laws.proofs.Stepping.{past, IsStepwise, stepped, at-begin, always, threads-all, threads-each}
 
 pub record IsClosed (G : Code → Type 0) : Type 0 where
   pub plain : (n : Note) (i : Plain) (k : Code) → G (Do n i k) → G k
@@ -40,7 +25,7 @@ pub record IsClosed (G : Code → Type 0) : Type 0 where
   pub past_enter : (n : Note) (b k : Code) → G (Enter n b k) → G k
   pub enter : (n : Note) (b k : Code) (r : ℕ) → G (Enter n b k) → G (b ⧺ Exit n r k)
   pub past_class : (n : Note) (c : ℕ) (b k : Code) → G (EnterClass n c b k) → G k
-  pub enter_class : (n : Note) (c : ℕ) (b k : Code) (r : ℕ) → G (EnterClass n c b k) → G (b ⧺ Exit n r k)
+  pub enter_class : (n : Note) (c : ℕ) (b k : Code) → G (EnterClass n c b k) → G (b ⧺ Exit n c k)
   pub exit : (n : Note) (r : ℕ) (k : Code) → G (Exit n r k) → G k
 
 -- each unit's code has G
@@ -51,183 +36,89 @@ abbrev pub Has : (ℕ → Code → Type 0) → Call → Type 0
 Has G c = G c.unit c.rest
 
 module _ (G : ℕ → Code → Type 0) (closed : (u : ℕ) → IsClosed (G u)) (p : Program) (units : UnitsHave G p) where
-  abbrev IfCall : Option Call → Type 0
-  IfCall None = Unit {0}
-  IfCall (Some c) = Has G c
+  -- what comes after the first instruction
+  past-has : (u : ℕ) (k : Code) → G u k → G u (past k)
+  past-has u Done h = h
+  past-has u (Do n i k) h = (closed u).plain n i k h
+  past-has u (If n a b k) h = (closed u).past_if n a b k h
+  past-has u (While n c b k) h = (closed u).past_while n c b k h
+  past-has u (Enter n b k) h = (closed u).past_enter n b k h
+  past-has u (EnterClass n c b k) h = (closed u).past_class n c b k h
+  past-has u (Exit n r k) h = (closed u).exit n r k h
 
-  abbrev IfStarted : Option Thread → Type 0
-  IfStarted None = Unit {0}
-  IfStarted (Some t) = Each (Has G) t.calls
+  abbrev after_mark : Code → Option (ℕ × Code) → Code
+  after_mark l None = l
+  after_mark l (Some (r, k)) = k
 
-  abbrev IfCode : ℕ → Option (ℕ × Code) → Type 0
-  IfCode u None = Unit {0}
-  IfCode u (Some (r, k)) = G u k
+  -- what comes after the next mark
+  exit-has : (u : ℕ) (k : Code) (r : ℕ) (l : Code) → next_exit k ≡ Some (r, l) → G u k → G u l
+  exit-has u Done r l e h = absurd (let no : ⊥ = cc in no)
+  exit-has u (Do n i k) r l e h = exit-has u k r l e ((closed u).plain n i k h)
+  exit-has u (If n a b k) r l e h = exit-has u k r l e ((closed u).past_if n a b k h)
+  exit-has u (While n c b k) r l e h = exit-has u k r l e ((closed u).past_while n c b k h)
+  exit-has u (Enter n b k) r l e h = exit-has u k r l e ((closed u).past_enter n b k h)
+  exit-has u (EnterClass n c b k) r l e h = exit-has u k r l e ((closed u).past_class n c b k h)
+  exit-has u (Exit n q k) r l e h = subst (G u) (ap (after_mark k) e) ((closed u).exit n q k h)
 
-  record Good (f : Frame) : Type 0 where
-    top : Has G f.call
-    under : Each (Has G) f.below
+  given-has : (c : Call) (o : Option Value) → Has G c → Has G (with_given c o)
+  given-has c None h = h
+  given-has c (Some v) h = h
 
-  record Kept (a : After) : Type 0 where
-    calls : Each (Has G) a.calls
-    started : IfStarted a.started
-
-  kept : (f : Frame) (m : Mode) → Good f → Kept (after f m)
-  kept f m g = record { calls = (g.top, g.under); started = tt }
-
-  temps : (f : Frame) (ts : List Value) → Good f → Good (with_temps f ts)
-  temps f ts g = record { top = g.top; under = g.under }
-
-  end : (f : Frame) → Good f → Kept (ends f)
-  end f g = kept (with_temps f []) mode.Ending (temps f [] g)
-
-  -- a call that begins has all its unit's code left
-  begun-for : (u : ℕ) (o : Option UnitCode) (args : List Value) (g : Gives) → slice_get p.units u ≡ o → IfCall (call_for u o args g)
-  begun-for u None args g e = tt
-  begun-for u (Some code) args g e = units u code e
-
-  begun : (o : Option ℕ) (args : List Value) (g : Gives) → IfCall (call_of p o args g)
-  begun None args g = tt
-  begun (Some u) args g = begun-for u (slice_get p.units u) args g refl
-
-  kept-begins : (f : Frame) (o : Option Call) → Good f → IfCall o → Kept (begins f o)
-  kept-begins f None g h = end f g
-  kept-begins f (Some c) g h = record { calls = (h, (g.top, g.under)); started = tt }
-
-  kept-start_with : (f : Frame) (o : Option Call) → Good f → IfCall o → Kept (start_with f o)
-  kept-start_with f None g h = end f g
-  kept-start_with f (Some c) g h = record { calls = (g.top, g.under); started = (h, tt) }
-
-  keeping : IsKeeping p Good Kept
-  keeping = record {
-    after = kept;
-    temps = temps;
-    local = λ f i v g. record { top = g.top; under = g.under };
-    write = λ f r i v g. record { top = g.top; under = g.under };
-    fresh = λ f g. record { top = g.top; under = g.under };
-    make = λ f c info e g. record { top = g.top; under = g.under };
-    begins = λ f u args h g. kept-begins f (call_of p u args h) g (begun u args h);
-    starts = λ f u args g. kept-start_with f (call_of p u args Own) g (begun u args Own);
+  stepwise : IsStepwise p (λ os t m cs. Unit {0}) (λ os t m cs. Each (Has G) cs) (λ s os ns. Unit {0})
+  stepwise = record {
+    same = λ t os. tt;
+    stays = λ s t os ns m cs ne r g z. g;
+    begun = λ t d u code e w z. (units u code w, tt);
+    begun_over = λ t z. tt;
+    faults = λ os t c k cs f may z. (past-has c.unit k f.1.0, f.1.1);
+    pushes = λ os t c n i k ts cs f h e z. ((closed c.unit).plain n i k f.1.0, f.1.1);
+    sets = λ os t c n i k v ts cs f e l z. ((closed c.unit).plain n (plain.Set i) k f.1.0, f.1.1);
+    writes = λ os t c n i k v r ts cs f e w. (tt, λ z. ((closed c.unit).plain n (plain.PutField i) k f.1.0, f.1.1));
+    writes_static = λ os t c n d i k v ts cs f e w. (tt, λ z. ((closed c.unit).plain n (plain.PutStatic d i) k f.1.0, f.1.1));
+    makes_plain = λ os t c n k cs f. (tt, λ z. ((closed c.unit).plain n plain.MakePlain k f.1.0, f.1.1));
+    makes = λ os t c n d a k info cs f l e w. (tt, λ z. ((closed c.unit).plain n (plain.Make d a) k f.1.0, f.1.1));
+    constructs = λ os t c n d a k info u code cs f l e w x.
+        (tt, λ z. (units u code x, ((closed c.unit).plain n (plain.Make d a) k f.1.0, f.1.1)));
+    makes_lost = λ os t c n d a k info u cs f e w x. (tt, λ z. ((closed c.unit).plain n (plain.Make d a) k f.1.0, f.1.1));
+    calls = λ os t c n m a k r d u code cs f l e w x y z. (units u code y, ((closed c.unit).plain n (plain.Call m a) k f.1.0, f.1.1));
+    calls_static = λ os t c n d m a k u code cs f l x y z. (units u code y, ((closed c.unit).plain n (plain.CallStatic d m a) k f.1.0, f.1.1));
+    starts_none = λ os t c n k ts cs f e z. ((closed c.unit).plain n plain.Start k f.1.0, f.1.1);
+    starts = λ os t c n k r d u code ts cs f e w x y.
+        (λ z. ((closed c.unit).plain n plain.Start k f.1.0, f.1.1), λ s a z. (units u code y, tt));
+    yes = λ os t c n a b k ts cs f e z. ((closed c.unit).yes n a b k f.1.0, f.1.1);
+    no = λ os t c n a b k ts cs f e z. ((closed c.unit).no n a b k f.1.0, f.1.1);
+    turns = λ os t c n x b k cs f z. ((closed c.unit).turn n x b k f.1.0, f.1.1);
+    enters = λ os t c n b k r ts o cs f e w x. (tt, λ z. ((closed c.unit).enter n b k r f.1.0, f.1.1));
+    enters_class = λ os t c n d b k o cs f w x. (tt, λ z. ((closed c.unit).enter_class n d b k f.1.0, f.1.1));
+    exits = λ os t c n r k cs f. (tt, λ z. ((closed c.unit).exit n r k f.1.0, f.1.1));
+    returns = λ os t c n k cs f z. ((closed c.unit).plain n plain.Return k f.1.0, f.1.1);
+    returns_value = λ os t c n k v ts cs f e z. ((closed c.unit).plain n plain.ReturnValue k f.1.0, f.1.1);
+    done = λ os t c d cs f z. (given-has d _ f.1.1.0, f.1.1.1);
+    done_last = λ os t c f z. tt;
+    gives_up = λ os t v c r k cs f e. (tt, λ z. (exit-has c.unit c.rest r k e f.1.0, f.1.1));
+    leaves = λ os t v c d cs f e z. (given-has d _ f.1.1.0, f.1.1.1);
+    leaves_last = λ os t v c f e z. tt;
+    unwinds = λ os t c r k cs f e. (tt, λ z. (exit-has c.unit c.rest r k e f.1.0, f.1.1));
+    drops = λ os t c d cs f e z. (f.1.1.0, f.1.1.1);
+    drops_last = λ os t c f e z. tt;
   }
 
-  -- ---- instructions with code inside
+  abbrev Threads : Thread → Type 0
+  Threads h = Each (Has G) h.calls
 
-  rest : (f : Frame) (k : Code) → G f.call.unit k → Each (Has G) f.below → Good (with_rest f k)
-  rest f k h u = record { top = h; under = u }
+  pub step-has : (c : Config) (t : ℕ) → EveryCall (Has G) c.threads → EveryCall (Has G) (step p c t).threads
+  step-has c t w =
+      threads-all Threads (step p c t).threads
+      (stepped p (λ os s m cs. Unit {0}) (λ os s m cs. Each (Has G) cs) (λ s os ns. Unit {0}) stepwise c t (λ s. tt) (λ s. tt)
+      (λ s. threads-each Threads c.threads s tt w))
 
-  kept-branch : (f : Frame) (a b : Code) (ts : List Value) → Good f → G f.call.unit (a ⧺ f.call.rest) → G f.call.unit (b ⧺ f.call.rest)
-      → Kept (branch_from f a b ts)
-  kept-branch f a b [] g x y = end f g
-  kept-branch f a b (value.Int n ∷ ts) g x y = end f g
-  kept-branch f a b (value.Bool true ∷ ts) g x y = record { calls = (x, g.under); started = tt }
-  kept-branch f a b (value.Bool false ∷ ts) g x y = record { calls = (y, g.under); started = tt }
-  kept-branch f a b (value.Str s ∷ ts) g x y = end f g
-  kept-branch f a b (value.Null ∷ ts) g x y = end f g
-  kept-branch f a b (value.Ref r ∷ ts) g x y = end f g
-
-  kept-take : (t : ℕ) (f : Frame) (n : Note) (b : Code) (r : ℕ) (o : Option Obj) → Good f → G f.call.unit (b ⧺ Exit n r f.call.rest)
-      → Kept (take_monitor t f n b r o)
-  kept-take t f n b r None g x = end f g
-  kept-take t f n b r (Some o) g x = record { calls = (x, g.under); started = tt }
-
-  kept-enter : (t : ℕ) (f : Frame) (n : Note) (b : Code) (ts : List Value) → Good f → G f.call.unit (Enter n b f.call.rest)
-      → Kept (enter_from t f n b ts)
-  kept-enter t f n b [] g x = end f g
-  kept-enter t f n b (value.Int i ∷ ts) g x = end f g
-  kept-enter t f n b (value.Bool c ∷ ts) g x = end f g
-  kept-enter t f n b (value.Str s ∷ ts) g x = end f g
-  kept-enter t f n b (value.Null ∷ ts) g x = end f g
-  kept-enter t f n b (value.Ref r ∷ ts) g x =
-      kept-if p Good Kept keeping (blocks t (slice_get f.objects r)) _ _ (record { calls = (x, g.under); started = tt })
-      (kept-take t (with_temps f ts) n b r (slice_get f.objects r) (temps f ts g) ((closed f.call.unit).enter n b f.call.rest r x))
-
-  kept-enter_class : (t : ℕ) (f : Frame) (n : Note) (c : ℕ) (b : Code) → Good f → G f.call.unit (EnterClass n c b f.call.rest)
-      → Kept (enter_class t f n c b)
-  kept-enter_class t f n c b g x =
-      kept-if p Good Kept keeping (blocks t (slice_get f.objects c)) _ _ (record { calls = (x, g.under); started = tt })
-      (kept-take t f n b c (slice_get f.objects c) g ((closed f.call.unit).enter_class n c b f.call.rest c x))
-
-  -- ---- leaving
-
-  kept-given : (c : Call) (o : Option Value) → Has G c → Has G (with_given c o)
-  kept-given c None h = h
-  kept-given c (Some v) h = h
-
-  kept-left : (os : List Obj) (o : Option Value) (cs : List Call) → Each (Has G) cs → Kept (left os o cs)
-  kept-left os o [] h = record { calls = tt; started = tt }
-  kept-left os o (c ∷ cs) h = record { calls = (kept-given c o h.0, h.1); started = tt }
-
-  kept-dropped : (os : List Obj) (cs : List Call) → Each (Has G) cs → Kept (dropped os cs)
-  kept-dropped os [] h = record { calls = tt; started = tt }
-  kept-dropped os (c ∷ cs) h = record { calls = (h.0, h.1); started = tt }
-
-  kept-next : (t : ℕ) (f : Frame) (k : Code) → G f.call.unit k → Each (Has G) f.below → Kept (next p t f k)
-  kept-next t f Done h u = kept-left f.objects (given f.call.gives None) f.below u
-  kept-next t f (Do n i k) h u = kept-plain p Good Kept keeping (with_rest f k) i (rest f k ((closed f.call.unit).plain n i k h) u)
-  kept-next t f (If n a b k) h u =
-      kept-branch (with_rest f k) a b f.call.temps (rest f k ((closed f.call.unit).past_if n a b k h) u)
-      ((closed f.call.unit).yes n a b k h) ((closed f.call.unit).no n a b k h)
-  kept-next t f (While n c b k) h u = record { calls = ((closed f.call.unit).turn n c b k h, u); started = tt }
-  kept-next t f (Enter n b k) h u =
-      kept-enter t (with_rest f k) n b f.call.temps (rest f k ((closed f.call.unit).past_enter n b k h) u) h
-  kept-next t f (EnterClass n c b k) h u =
-      kept-enter_class t (with_rest f k) n c b (rest f k ((closed f.call.unit).past_class n c b k h) u) h
-  kept-next t f (Exit n r k) h u = record { calls = ((closed f.call.unit).exit n r k h, u); started = tt }
-
-  past : (u : ℕ) (k : Code) → G u k → IfCode u (next_exit k)
-  past u Done h = tt
-  past u (Do n i k) h = past u k ((closed u).plain n i k h)
-  past u (If n a b k) h = past u k ((closed u).past_if n a b k h)
-  past u (While n c b k) h = past u k ((closed u).past_while n c b k h)
-  past u (Enter n b k) h = past u k ((closed u).past_enter n b k h)
-  past u (EnterClass n c b k) h = past u k ((closed u).past_class n c b k h)
-  past u (Exit n r k) h = (closed u).exit n r k h
-
-  kept-leave : (f : Frame) (v : Option Value) (o : Option (ℕ × Code)) → IfCode f.call.unit o → Each (Has G) f.below → Kept (leave f v o)
-  kept-leave f v None h u = kept-left f.objects (given f.call.gives v) f.below u
-  kept-leave f v (Some (r, k)) h u = record { calls = (h, u); started = tt }
-
-  kept-unwind : (f : Frame) (o : Option (ℕ × Code)) → IfCode f.call.unit o → Each (Has G) f.below → Kept (unwind f o)
-  kept-unwind f None h u = kept-dropped f.objects f.below u
-  kept-unwind f (Some (r, k)) h u = record { calls = (h, u); started = tt }
-
-  kept-move : (t : ℕ) (f : Frame) (m : Mode) → Good f → Kept (move p t f m)
-  kept-move t f mode.Running g = kept-next t f f.call.rest g.top g.under
-  kept-move t f (mode.Leaving v) g = kept-leave f v (next_exit f.call.rest) (past f.call.unit f.call.rest g.top) g.under
-  kept-move t f mode.Ending g = kept-unwind f (next_exit f.call.rest) (past f.call.unit f.call.rest g.top) g.under
-  kept-move t f mode.Over g = kept f mode.Over g
-
-  kept-moved : (t : ℕ) (os : List Obj) (h : Thread) (cs : List Call) → Each (Has G) cs → Kept (moved p t os h cs)
-  kept-moved t os h [] g = record { calls = tt; started = tt }
-  kept-moved t os h (c ∷ cs) g =
-      kept-move t (record { objects = os; call = c; below = cs }) h.mode (record { top = g.0; under = g.1 })
-
-  -- ---- configurations
-
-  started-each : (o : Option Thread) → IfStarted o → EveryCall (Has G) (option_to_list o)
-  started-each None h = tt
-  started-each (Some t) h = (h, tt)
-
-  pub kept-step_of : (c : Config) (t : ℕ) (o : Option Thread) → slice_get c.threads t ≡ o → EveryCall (Has G) c.threads
-      → EveryCall (Has G) (step_of p c t o).threads
-  kept-step_of c t None e h = h
-  kept-step_of c t (Some now) e h =
-      let P : Thread → Type 0 = λ th. Each (Has G) th.calls in
-      let k : Kept (moved p t c.objects now now.calls) = kept-moved t c.objects now now.calls (each-get P c.threads t now e h) in
-      each-append P (slice_set c.threads t (record { calls = (moved p t c.objects now now.calls).calls; mode = (moved p t c.objects now now.calls).mode }))
-      (option_to_list (moved p t c.objects now now.calls).started)
-      (each-set P c.threads t _ k.calls h) (started-each _ k.started)
-
-  kept-run : (c : Config) (schedule : List ℕ) → EveryCall (Has G) c.threads → EveryCall (Has G) (run p c schedule).threads
-  kept-run c [] h = h
-  kept-run c (t ∷ schedule) h = kept-run (step p c t) schedule (kept-step_of c t (slice_get c.threads t) refl h)
-
-  main-each : (o : Option Call) → IfCall o → Each (Has G) (main_thread o).calls
-  main-each None h = tt
-  main-each (Some c) h = (h, tt)
-
-  pub begin-each : (mains : List ℕ) → EveryCall (Has G) (map (begun_thread p) mains)
-  begin-each [] = tt
-  begin-each (c ∷ mains) = (main-each _ (begun (unit_number p c 1 1) (value.Null ∷ []) _), begin-each mains)
+  pub begin-has : (mains : List ℕ) → EveryCall (Has G) (begin p mains).threads
+  begin-has mains =
+      threads-all Threads (begin p mains).threads
+      (at-begin p (λ os s m cs. Unit {0}) (λ os s m cs. Each (Has G) cs) (λ s os ns. Unit {0}) stepwise mains (λ s. tt))
 
   pub carried : (mains schedule : List ℕ) → EveryCall (Has G) (run p (begin p mains) schedule).threads
-  carried mains schedule = kept-run (begin p mains) schedule (begin-each mains)
+  carried mains schedule =
+      threads-all Threads (run p (begin p mains) schedule).threads
+      (always p (λ os s m cs. Unit {0}) (λ os s m cs. Each (Has G) cs) (λ s os ns. Unit {0}) stepwise (λ c. Unit {0}) (λ c s k. tt) (λ c k s. tt)
+      mains schedule tt)

@@ -10,3 +10,8 @@ pub mod Waits
 pub mod Flows
 pub mod Shaping
 pub mod Others
+pub mod Temps
+pub mod Stepping
+pub mod Stacks
+pub mod Guarded
+pub mod Making

@@ -15,3 +15,7 @@ each-set P (y ∷ ys) (suc i) x p h = (h.0, each-set P ys i x p h.1)
 pub each-append : {A : Type 0} (P : A → Type 0) (xs ys : List A) → Each P xs → Each P ys → Each P (xs ++ ys)
 each-append P [] ys h k = k
 each-append P (x ∷ xs) ys h k = (h.0, each-append P xs ys h.1 k)
+
+pub each-map : {A : Type 0} (P Q : A → Type 0) (xs : List A) → ((x : A) → P x → Q x) → Each P xs → Each Q xs
+each-map P Q [] f h = tt
+each-map P Q (x ∷ xs) f h = (f x h.0, each-map P Q xs f h.1)

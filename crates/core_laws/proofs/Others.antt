@@ -1,7 +1,7 @@
 -- A step changes one thread, and adds at most one at the end.
 use Rattle.std.proofs.Common.{◌≡◌, ◌≢◌, ℕ, zero, suc, List, [], ◌∷◌, ◌++◌, Option, Some, None, slice_get, slice_set, sym, ◌∙◌}
 use Rattle.std.specs.Option.{option_to_list}
-use Rattle.core_model.specs.Step.{moved, step_of, step}
+use Rattle.core_model.specs.Step.{thread_step, step_of, step}
 use Rattle.core_model.specs.declared.program.Program.{Program}
 use Rattle.core_model.specs.declared.config.Config.{Config}
 use Rattle.core_model.specs.declared.config.Thread.{Thread}
@@ -16,7 +16,7 @@ others-of : (p : Program) (c : Config) (t s : ℕ) (h : Thread) (o : Option Thre
     → slice_get (step_of p c t o).threads s ≡ Some h
 others-of p c t s h None ne e = e
 others-of p c t s h (Some now) ne e =
-    get-front (slice_set c.threads t _) (option_to_list (moved p t c.objects now now.calls).started) s h
+    get-front (slice_set c.threads t _) (option_to_list (thread_step p t c.objects now now.calls).started) s h
     (get-other c.threads t s _ (λ x. ne (sym x)) ∙ e)
 
 pub others-stay : (p : Program) (c : Config) (t s : ℕ) (h : Thread) → s ≢ t → slice_get c.threads s ≡ Some h

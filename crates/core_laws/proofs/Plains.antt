@@ -1,7 +1,7 @@
 -- A property of frames that temporaries, locals, writes and new objects don't change, and that calls begin with, is kept by
 -- each instruction without code inside.
 use Rattle.std.proofs.Common.{◌≡◌, refl, ℕ, ◌+◌, Bool, true, false, not, List, [], ◌∷◌, ◌++◌, Option, Some, None, if◌then◌else◌, length, slice_get, nat_lt, nat_le, is_some, take, drop, reverse}
-use Rattle.core_model.specs.Frames.{with_objects, with_temps, after, goes, ends, push_if}
+use Rattle.core_model.specs.Frames.{with_objects, with_temps, after, goes_on, ends, push_if}
 use Rattle.core_model.specs.Straight.{set_from, with_local, drop_from, read, field_from, keep_from, write, put_on, put_from, put_static_from, operate_from, neg_from, not_from, return_value_from}
 use Rattle.core_model.specs.Calling.{begins, construct, make_of, make_from, receiver, call_in, call_at, call_from, call_static_from, start_with, start_in, start_from}
 use Rattle.core_model.specs.Objects.{fresh_object, field_at, with_field, changed, class_of, made}
@@ -11,6 +11,7 @@ use Rattle.core_model.specs.Step.{do_plain}
 use Rattle.core_model.specs.declared.instr.Op.{Op}
 use Rattle.core_model.specs.declared.instr.Plain.{Plain}
 use Rattle.core_model.specs.declared.instr.Plain.TheVariants as plain
+use Rattle.core_model.specs.declared.program.TheConstants.{NEW, RUN}
 use Rattle.core_model.specs.declared.program.Program.{Program}
 use Rattle.core_model.specs.declared.program.ClassInfo.{ClassInfo}
 use Rattle.core_model.specs.declared.config.Gives.{Gives}
@@ -37,7 +38,7 @@ module _ (p : Program) (Good : Frame → Type 0) (Kept : After → Type 0) (k : 
   pub end : (f : Frame) → Good f → Kept (ends f)
   end f g = k.after (with_temps f []) mode.Ending (k.temps f [] g)
 
-  go : (f : Frame) (ts : List Value) → Good f → Kept (goes (with_temps f ts))
+  go : (f : Frame) (ts : List Value) → Good f → Kept (goes_on (with_temps f ts))
   go f ts g = k.after (with_temps f ts) mode.Running (k.temps f ts g)
 
   pub kept-if : (b : Bool) (x y : After) → Kept x → Kept y → Kept (if b then x else y)
@@ -51,7 +52,7 @@ module _ (p : Program) (Good : Frame → Type 0) (Kept : After → Type 0) (k : 
   kept-set : (f : Frame) (i : ℕ) (ts : List Value) → Good f → Kept (set_from f i ts)
   kept-set f i [] g = end f g
   kept-set f i (v ∷ ts) g =
-      kept-if (nat_lt i (length f.call.locals)) (goes (with_local (with_temps f ts) i v)) (ends f)
+      kept-if (nat_lt i (length f.call.locals)) (goes_on (with_local (with_temps f ts) i v)) (ends f)
       (k.after _ mode.Running (k.local (with_temps f ts) i v (k.temps f ts g))) (end f g)
 
   kept-drop : (f : Frame) (ts : List Value) → Good f → Kept (drop_from f ts)
@@ -79,7 +80,7 @@ module _ (p : Program) (Good : Frame → Type 0) (Kept : After → Type 0) (k : 
 
   kept-write : (f : Frame) (r i : ℕ) (v : Value) → Good f → Kept (write f r i v)
   kept-write f r i v g =
-      kept-if (is_some (field_at f.objects r i)) (goes (with_objects f (changed f.objects r (λ o. with_field o i v)))) (ends f)
+      kept-if (is_some (field_at f.objects r i)) (goes_on (with_objects f (changed f.objects r (λ o. with_field o i v)))) (ends f)
       (k.after _ mode.Running (k.write f r i v g)) (end f g)
 
   kept-put_on : (f : Frame) (i : ℕ) (v : Value) (ts : List Value) → Good f → Kept (put_on f i v ts)
@@ -130,7 +131,7 @@ module _ (p : Program) (Good : Frame → Type 0) (Kept : After → Type 0) (k : 
   kept-make_of : (f : Frame) (c n : ℕ) (args : List Value) (o : Option ClassInfo) → slice_get p.classes c ≡ o → Good f → Kept (make_of p f c n args o)
   kept-make_of f c n args None e g = end f g
   kept-make_of f c n args (Some info) e g =
-      kept-construct (with_objects f (made f.objects c info.fields)) (length f.objects) args (unit_number p c 0 n)
+      kept-construct (with_objects f (made f.objects c info.fields)) (length f.objects) args (unit_number p c NEW n)
       (k.make f c info e g)
 
   kept-make : (f : Frame) (c n : ℕ) (ts : List Value) → Good f → Kept (make_from p f c n ts)
@@ -160,7 +161,7 @@ module _ (p : Program) (Good : Frame → Type 0) (Kept : After → Type 0) (k : 
 
   kept-start_in : (f : Frame) (v : Value) (o : Option ℕ) → Good f → Kept (start_in p f v o)
   kept-start_in f v None g = end f g
-  kept-start_in f v (Some c) g = k.starts f (unit_number p c 2 0) (v ∷ []) g
+  kept-start_in f v (Some c) g = k.starts f (unit_number p c RUN 0) (v ∷ []) g
 
   kept-start : (f : Frame) (ts : List Value) → Good f → Kept (start_from p f ts)
   kept-start f [] g = end f g

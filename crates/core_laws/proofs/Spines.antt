@@ -44,7 +44,7 @@ spined-closed = record {
   past_enter = λ n b k h. h.1;
   enter = λ n b k r h. spined-append b (Exit n r k) h.0 h.1;
   past_class = λ n c b k h. h.1;
-  enter_class = λ n c b k r h. spined-append b (Exit n r k) h.0 h.1;
+  enter_class = λ n c b k h. spined-append b (Exit n c k) h.0 h.1;
   exit = λ n r k h. h;
 }
 

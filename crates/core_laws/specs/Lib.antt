@@ -3,3 +3,5 @@ pub mod Places
 pub mod Marks
 pub mod Waiting
 pub mod Shape
+pub mod Guards
+pub mod Constructors

@@ -60,6 +60,14 @@ abbrev pub entries_of : ℕ → Option Obj → ℕ
 entries_of t None = 0
 entries_of t (Some o) = entries_if t o.owner o.count
 
+abbrev pub owner_of : Option Obj → Option ℕ
+owner_of None = None
+owner_of (Some o) = o.owner
+
+-- the owner of the object's monitor
+abbrev pub owner_at : Config → ℕ → Option ℕ
+owner_at c r = owner_of (slice_get c.objects r)
+
 -- a free monitor has count 0, one with an owner has been entered
 abbrev pub IsSettled : Option ℕ → ℕ → Type 0
 IsSettled None n = n ≡ 0

@@ -19,12 +19,22 @@ Along P (While n c b s) k =
 Along P (Enter n b s) k =
     P (Enter n b (s ⧺ k)) × ((r : ℕ) → Along P b (Exit n r (s ⧺ k)) × P (Exit n r (s ⧺ k))) × Along P s k
 Along P (EnterClass n c b s) k =
-    P (EnterClass n c b (s ⧺ k)) × ((r : ℕ) → Along P b (Exit n r (s ⧺ k)) × P (Exit n r (s ⧺ k))) × Along P s k
+    P (EnterClass n c b (s ⧺ k)) × (Along P b (Exit n c (s ⧺ k)) × P (Exit n c (s ⧺ k))) × Along P s k
 Along P (Exit n r s) k = P (Exit n r (s ⧺ k)) × Along P s k
 
 -- P holds of what is left at each place of the code
 abbrev pub Always : (Code → Type 0) → Code → Type 0
 Always P s = Along P s Done
+
+-- P holds of the code, unless nothing is left
+abbrev pub Here : (Code → Type 0) → Code → Type 0
+Here P Done = Unit {0}
+Here P (Do n p k) = P (Do n p k)
+Here P (If n a b k) = P (If n a b k)
+Here P (While n c b k) = P (While n c b k)
+Here P (Enter n b k) = P (Enter n b k)
+Here P (EnterClass n c b k) = P (EnterClass n c b k)
+Here P (Exit n r k) = P (Exit n r k)
 
 abbrev pub Each : {A : Type 0} → (A → Type 0) → List A → Type 0
 Each P [] = Unit {0}

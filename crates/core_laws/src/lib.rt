@@ -4,6 +4,8 @@
 #![tactic(auto)]
 
 mod code;
+mod constructors;
+mod guards;
 mod kinds;
 mod monitors;
 mod notes;
@@ -11,6 +13,8 @@ mod threads;
 mod waiting;
 
 pub use code::known_code_stays_known;
+pub use constructors::constructors_have_their_object;
+pub use guards::guarded_reads_are_owned;
 pub use kinds::objects_keep_their_kinds;
 pub use monitors::marks_tell_owners;
 pub use notes::notes_change_nothing;

@@ -2,7 +2,8 @@
 use Rattle.std.proofs.Common.{◌≡◌, ℕ, suc, ◌+◌, ◌<◌, Bool, true, false, List, [], ◌∷◌, ◌++◌, length, get_or, drop, refl, sym, ap, ◌∙◌, arith, append_assoc, append-nil, add-one, drop-cons}
 use mathlib.Core.Bool.{beq}
 use Rattle.core_model.specs.Filling.{filled, all_filled}
-use Rattle.core_model.specs.Objects.{same_kind, of_kind, initials, initial_values, fresh_count}
+use Rattle.core_model.specs.Operators.{same_bool}
+use Rattle.core_model.specs.Objects.{of_kind, initials, initial_values, fresh_count}
 use Rattle.core_model.specs.declared.make.Filling.{Filling}
 use Rattle.core_model.specs.declared.program.FieldInfo.{FieldInfo}
 use Rattle.core_model.specs.declared.program.Initial.{Initial}
@@ -19,7 +20,7 @@ filled-next f [] = omega arith
 filled-next f (Held v ∷ is) = filled-next (filled f (Held v)) is
 filled-next f (FreshObject ∷ is) = omega (arith, filled-next (filled f FreshObject) is)
 
-same-beq : (s b : Bool) → same_kind s b ≡ beq b s
+same-beq : (s b : Bool) → same_bool s b ≡ beq b s
 same-beq true true = refl
 same-beq true false = refl
 same-beq false true = refl

@@ -2,7 +2,7 @@
 use Rattle.std.proofs.Common.{◌≡◌, ℕ, zero, suc, List, [], ◌∷◌, ◌++◌, Some, None, slice_get, slice_set, refl, ap}
 use Rattle.std.specs.Option.{option_to_list}
 use Rattle.core_model.specs.Begin.{no_thread}
-use Rattle.core_model.specs.Step.{moved, step}
+use Rattle.core_model.specs.Step.{thread_step, step}
 use Rattle.core_model.specs.declared.program.Program.{Program}
 use Rattle.core_model.specs.declared.config.Config.{Config}
 use Rattle.core_model.specs.declared.config.Thread.{Thread}
@@ -23,7 +23,7 @@ pub stays : (program : Program) (c : Config) (t : ℕ) → slice_get c.threads t
 stays program c t e = rw (set-none c.threads t no_thread e, e) refl
 
 pub steps : (program : Program) (c : Config) (t : ℕ) (thread : Thread) (a : After) → slice_get c.threads t ≡ Some thread
-    → a ≡ moved program t c.objects thread thread.calls
+    → a ≡ thread_step program t c.objects thread thread.calls
     → record { objects = a.objects; threads = slice_set (slice_set c.threads t no_thread) t (record { calls = a.calls; mode = a.mode }) ++ option_to_list a.started }
     ≡ step program c t
 steps program c t thread a e h = rw (e, set-twice, h) refl

@@ -1,6 +1,6 @@
 -- The instructions that make objects, begin calls and start threads.
 use Rattle.std.specs.Prelude.{ℕ, ◌+◌, nat_le, nat_lt, List, [], ◌∷◌, ◌++◌, Option, Some, None, if◌then◌else◌, length, slice_get, take, drop, reverse}
-use Rattle.core_model.specs.Frames.{with_objects, with_temps, goes, ends, push}
+use Rattle.core_model.specs.Frames.{with_objects, with_temps, goes_on, ends, push}
 use Rattle.core_model.specs.Objects.{class_of, made, fresh_object}
 use Rattle.core_model.specs.Units.{unit_number, call_of}
 use Rattle.core_model.specs.declared.program.TheConstants.{NEW, RUN}
@@ -86,6 +86,6 @@ start_in program f v (Some c) = start_with f (call_of program (unit_number progr
 
 -- Start
 abbrev pub start_from : Program → Frame → List Value → After
-start_from program f (value.Null ∷ ts) = goes (with_temps f ts)
+start_from program f (value.Null ∷ ts) = goes_on (with_temps f ts)
 start_from program f (value.Ref r ∷ ts) = start_in program (with_temps f ts) (value.Ref r) (class_of (slice_get f.objects r))
 start_from program f _ = ends f

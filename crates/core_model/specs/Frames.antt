@@ -26,8 +26,8 @@ abbrev pub after : Frame → Mode → After
 after f m = record { objects = f.objects; calls = f.call ∷ f.below; mode = m; started = None }
 
 -- the call goes on
-abbrev pub goes : Frame → After
-goes f = after f mode.Running
+abbrev pub goes_on : Frame → After
+goes_on f = after f mode.Running
 
 -- the thread ends, and the call has no temporaries
 abbrev pub ends : Frame → After
@@ -35,7 +35,7 @@ ends f = after (with_temps f []) mode.Ending
 
 -- the call goes on with one more temporary
 abbrev pub push : Frame → Value → After
-push f v = goes (with_temps f (v ∷ f.call.temps))
+push f v = goes_on (with_temps f (v ∷ f.call.temps))
 
 -- the same where there is a value; else the thread ends
 abbrev pub push_if : Frame → Option Value → After

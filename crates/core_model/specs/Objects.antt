@@ -1,5 +1,6 @@
 -- Objects: their fields and their monitors, and how new ones begin.
 use Rattle.std.specs.Prelude.{ℕ, ◌+◌, ◌-◌, ◌==◌, Bool, true, false, not, List, [], ◌∷◌, ◌++◌, Option, Some, None, if◌then◌else◌, length, slice_get, slice_set, replicate, map, filter}
+use Rattle.core_model.specs.Operators.{same_bool}
 use Rattle.core_model.specs.declared.program.FieldInfo.{FieldInfo}
 use Rattle.core_model.specs.declared.program.Initial.{Initial}
 use Rattle.core_model.specs.declared.program.Initial.TheVariants.{Held, FreshObject}
@@ -74,13 +75,9 @@ initial_values n [] = []
 initial_values n (Held v ∷ is) = v ∷ initial_values n is
 initial_values n (FreshObject ∷ is) = value.Ref n ∷ initial_values (n + 1) is
 
-abbrev pub same_kind : Bool → Bool → Bool
-same_kind true b = b
-same_kind false b = not b
-
 -- the static fields, or the others, in written order
 abbrev pub of_kind : Bool → List FieldInfo → List FieldInfo
-of_kind s fs = filter (λ (f : FieldInfo). same_kind s f.is_static) fs
+of_kind s fs = filter (λ (f : FieldInfo). same_bool s f.is_static) fs
 
 -- how these fields begin
 abbrev pub initials : Bool → List FieldInfo → List Initial

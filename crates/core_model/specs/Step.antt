@@ -2,7 +2,7 @@
 use Rattle.std.specs.Prelude.{ℕ, List, [], ◌∷◌, ◌++◌, Option, Some, None, slice_get, slice_set}
 use Rattle.std.specs.Option.{option_to_list}
 use Rattle.core_model.specs.Code.{Code, Done, Do, If, While, Enter, EnterClass, Exit}
-use Rattle.core_model.specs.Frames.{with_temps, with_rest, after, goes, push}
+use Rattle.core_model.specs.Frames.{with_temps, with_rest, after, goes_on, push}
 use Rattle.core_model.specs.Straight.{get, set_from, drop_from, read, field_from, keep_from, put_from, put_static_from, operate_from, neg_from, not_from, return_from, return_value_from, branch_from, turn}
 use Rattle.core_model.specs.Calling.{make_plain, make_from, call_from, call_static_from, start_from}
 use Rattle.core_model.specs.Monitors.{enter_from, enter_class, exit_object}
@@ -54,9 +54,9 @@ with_given c None = c
 with_given c (Some v) = record c { temps = v ∷ c.temps }
 
 -- the call is left, and the caller goes on; without a caller the thread is over
-abbrev pub left : List Obj → Option Value → List Call → After
-left objects result [] = record { objects = objects; calls = []; mode = mode.Over; started = None }
-left objects result (caller ∷ below) = record {
+abbrev pub resumed : List Obj → Option Value → List Call → After
+resumed objects result [] = record { objects = objects; calls = []; mode = mode.Over; started = None }
+resumed objects result (caller ∷ below) = record {
   objects = objects;
   calls = with_given caller result ∷ below;
   mode = mode.Running;
@@ -64,9 +64,9 @@ left objects result (caller ∷ below) = record {
 }
 
 -- the call is left, and the next one ends; without one the thread is over
-abbrev pub dropped : List Obj → List Call → After
-dropped objects [] = record { objects = objects; calls = []; mode = mode.Over; started = None }
-dropped objects (caller ∷ below) = record {
+abbrev pub caller_ended : List Obj → List Call → After
+caller_ended objects [] = record { objects = objects; calls = []; mode = mode.Over; started = None }
+caller_ended objects (caller ∷ below) = record {
   objects = objects;
   calls = record caller { temps = [] } ∷ below;
   mode = mode.Ending;
@@ -74,14 +74,14 @@ dropped objects (caller ∷ below) = record {
 }
 
 -- a running thread, by what is left of its call
-abbrev pub next : Program → ℕ → Frame → Code → After
-next program t f Done = left f.objects (given f.call.gives None) f.below
-next program t f (Do n p k) = do_plain program (with_rest f k) p
-next program t f (If n a b k) = branch_from (with_rest f k) a b f.call.temps
-next program t f (While n c b k) = turn (with_rest f k) n c b
-next program t f (Enter n b k) = enter_from t (with_rest f k) n b f.call.temps
-next program t f (EnterClass n c b k) = enter_class t (with_rest f k) n c b
-next program t f (Exit n r k) = goes (exit_object (with_rest f k) r)
+abbrev pub running_step : Program → ℕ → Frame → Code → After
+running_step program t f Done = resumed f.objects (given f.call.gives None) f.below
+running_step program t f (Do n p k) = do_plain program (with_rest f k) p
+running_step program t f (If n a b k) = branch_from (with_rest f k) a b f.call.temps
+running_step program t f (While n c b k) = turn (with_rest f k) n c b
+running_step program t f (Enter n b k) = enter_from t (with_rest f k) n b f.call.temps
+running_step program t f (EnterClass n c b k) = enter_class t (with_rest f k) n c b
+running_step program t f (Exit n r k) = goes_on (exit_object (with_rest f k) r)
 
 -- the first mark of a monitor that is left, and what comes after it
 abbrev pub next_exit : Code → Option (ℕ × Code)
@@ -94,38 +94,38 @@ next_exit (EnterClass n c b k) = next_exit k
 next_exit (Exit n r k) = Some (r, k)
 
 -- the call gives up its next monitor, or is left with the result
-abbrev pub leave : Frame → Option Value → Option (ℕ × Code) → After
-leave f result None = left f.objects (given f.call.gives result) f.below
-leave f result (Some (r, k)) = after (exit_object (with_rest (with_temps f []) k) r) (mode.Leaving result)
+abbrev pub leaving_step : Frame → Option Value → Option (ℕ × Code) → After
+leaving_step f result None = resumed f.objects (given f.call.gives result) f.below
+leaving_step f result (Some (r, k)) = after (exit_object (with_rest (with_temps f []) k) r) (mode.Leaving result)
 
 -- the call gives up its next monitor, or is left
-abbrev pub unwind : Frame → Option (ℕ × Code) → After
-unwind f None = dropped f.objects f.below
-unwind f (Some (r, k)) = after (exit_object (with_rest (with_temps f []) k) r) mode.Ending
+abbrev pub ending_step : Frame → Option (ℕ × Code) → After
+ending_step f None = caller_ended f.objects f.below
+ending_step f (Some (r, k)) = after (exit_object (with_rest (with_temps f []) k) r) mode.Ending
 
 -- a thread with a call on top, by its mode
-abbrev pub move : Program → ℕ → Frame → Mode → After
-move program t f mode.Running = next program t f f.call.rest
-move program t f (mode.Leaving result) = leave f result (next_exit f.call.rest)
-move program t f mode.Ending = unwind f (next_exit f.call.rest)
-move program t f mode.Over = after f mode.Over
+abbrev pub call_step : Program → ℕ → Frame → Mode → After
+call_step program t f mode.Running = running_step program t f f.call.rest
+call_step program t f (mode.Leaving result) = leaving_step f result (next_exit f.call.rest)
+call_step program t f mode.Ending = ending_step f (next_exit f.call.rest)
+call_step program t f mode.Over = after f mode.Over
 
 -- a thread without calls stays as it is
-abbrev pub moved : Program → ℕ → List Obj → Thread → List Call → After
-moved program t objects thread [] = record { objects = objects; calls = []; mode = thread.mode; started = None }
-moved program t objects thread (c ∷ below) =
-    move program t (record { objects = objects; call = c; below = below }) thread.mode
+abbrev pub thread_step : Program → ℕ → List Obj → Thread → List Call → After
+thread_step program t objects thread [] = record { objects = objects; calls = []; mode = thread.mode; started = None }
+thread_step program t objects thread (c ∷ below) =
+    call_step program t (record { objects = objects; call = c; below = below }) thread.mode
 
 -- the configuration with what the step of thread t left; what it started comes last
-abbrev pub put : Config → ℕ → After → Config
-put c t a = record {
+abbrev pub with_step : Config → ℕ → After → Config
+with_step c t a = record {
   objects = a.objects;
   threads = slice_set c.threads t (record { calls = a.calls; mode = a.mode }) ++ option_to_list a.started;
 }
 
 abbrev pub step_of : Program → Config → ℕ → Option Thread → Config
 step_of program c t None = c
-step_of program c t (Some thread) = put c t (moved program t c.objects thread thread.calls)
+step_of program c t (Some thread) = with_step c t (thread_step program t c.objects thread thread.calls)
 
 -- Step: what the step of thread t makes of the configuration
 abbrev pub step : Program → Config → ℕ → Config

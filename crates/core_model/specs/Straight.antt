@@ -1,7 +1,7 @@
 -- The instructions that begin no call, enter no monitor and make no object.
 use Rattle.std.specs.Prelude.{ℕ, not, nat_lt, is_some, List, [], ◌∷◌, Some, None, if◌then◌else◌, length, slice_get, slice_set}
 use Rattle.core_model.specs.Code.{Code, Done, If, While, ◌⧺◌}
-use Rattle.core_model.specs.Frames.{with_call, with_objects, with_temps, with_rest, after, goes, ends, push, push_if}
+use Rattle.core_model.specs.Frames.{with_call, with_objects, with_temps, with_rest, after, goes_on, ends, push, push_if}
 use Rattle.core_model.specs.Objects.{field_at, with_field, changed}
 use Rattle.core_model.specs.Operators.{operated, negated}
 use Rattle.core_model.specs.declared.instr.Note.{Note}
@@ -21,12 +21,12 @@ with_local f i v = with_call f (record f.call { locals = slice_set f.call.locals
 
 -- Set(i)
 abbrev pub set_from : Frame → ℕ → List Value → After
-set_from f i (v ∷ ts) = if nat_lt i (length f.call.locals) then goes (with_local (with_temps f ts) i v) else ends f
+set_from f i (v ∷ ts) = if nat_lt i (length f.call.locals) then goes_on (with_local (with_temps f ts) i v) else ends f
 set_from f i [] = ends f
 
 -- Drop
 abbrev pub drop_from : Frame → List Value → After
-drop_from f (v ∷ ts) = goes (with_temps f ts)
+drop_from f (v ∷ ts) = goes_on (with_temps f ts)
 drop_from f [] = ends f
 
 -- the field of the object is pushed
@@ -47,7 +47,7 @@ keep_from f i _ = ends f
 abbrev pub write : Frame → ℕ → ℕ → Value → After
 write f r i v =
     if is_some (field_at f.objects r i)
-    then goes (with_objects f (changed f.objects r (λ o. with_field o i v)))
+    then goes_on (with_objects f (changed f.objects r (λ o. with_field o i v)))
     else ends f
 
 -- PutField(i), once the value is popped
@@ -94,9 +94,9 @@ return_value_from f [] = ends f
 
 -- If(a, b)
 abbrev pub branch_from : Frame → Code → Code → List Value → After
-branch_from f a b (value.Bool c ∷ ts) = goes (with_temps (with_rest f ((if c then a else b) ⧺ f.call.rest)) ts)
+branch_from f a b (value.Bool c ∷ ts) = goes_on (with_temps (with_rest f ((if c then a else b) ⧺ f.call.rest)) ts)
 branch_from f a b _ = ends f
 
 -- While(c, b): the condition, and then an If of the body and this While again
 abbrev pub turn : Frame → Note → Code → Code → After
-turn f n c b = goes (with_rest f (c ⧺ If n (b ⧺ While n c b Done) Done f.call.rest))
+turn f n c b = goes_on (with_rest f (c ⧺ If n (b ⧺ While n c b Done) Done f.call.rest))

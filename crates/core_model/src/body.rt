@@ -1,18 +1,18 @@
 ghost use Rattle.std.specs.Prelude.{◌≡◌, MatchOption, OnOk, IfOk, Some, None};
+ghost use Rattle.core_model.specs.Code as code;
 ghost use Rattle.core_model.specs.Code.{Code, Done, ◌⧺◌};
 ghost use Rattle.core_model.specs.CodeOf.{before, object_of, plain_of};
 ghost use Rattle.core_model.specs.NextAccess.{first_plain};
 ghost use Rattle.core_model.specs.Step.{next_exit};
 
 use crate::instr::{ClassId, Note, Plain};
-use desk_base::OutOfMemory;
-use sqlite_items::Items;
+use desk_base::{Items, OutOfMemory};
 use std::alloc::Global;
 use std::marker::Model;
 
 /// An instruction. A note stands with each; no step looks at it.
 #[cycle(code)]
-#[derive(Debug, Drop)]
+#[derive(Drop)]
 pub enum Instr {
     Do(Note, Plain),
     /// Pop a boolean and go on with the first or the second part.
@@ -31,7 +31,7 @@ pub enum Instr {
 /// Code: a list of instructions. Contracts see it as plain data, each instruction with what comes
 /// after it. The first instruction is kept last, so that it is taken and put at once.
 #[cycle(code)]
-#[derive(Debug, Drop)]
+#[derive(Drop)]
 pub struct Body {
     instrs: Items<Instr>,
 }
@@ -88,6 +88,47 @@ impl Body {
         let Body { instrs } = front;
         self.instrs.append(instrs)?;
         Ok(())
+    }
+
+    /// Puts a block before the code, and between them the mark of the object's monitor.
+    pub(crate) fn push_block(
+        &mut self,
+        note: Note,
+        block: Body,
+        object: u32,
+    ) -> Result<(), OutOfMemory>
+        ensures { OnOk result (self.new ≡ block ⧺ code.Exit note object self.old) }
+    {
+        self.push(Instr::Exit(note, object))?;
+        self.prepend(block)
+    }
+
+    /// The body of a loop, and then the loop.
+    fn looped(alloc: Global, note: Note, condition: Body, body: Body) -> Result<Body, OutOfMemory>
+        ensures { IfOk result (λ looped. looped ≡ body ⧺ code.While note condition body Done) }
+    {
+        let turned = body.copy(alloc)?;
+        let mut again = Body::new(alloc);
+        again.push(Instr::While(note, condition, body))?;
+        again.prepend(turned)?;
+        Ok(again)
+    }
+
+    /// Puts a loop before the code, as it goes on: the condition, and then an `If` of the body and the
+    /// loop again, or nothing.
+    pub(crate) fn push_turn(
+        &mut self,
+        alloc: Global,
+        note: Note,
+        condition: Body,
+        body: Body,
+    ) -> Result<(), OutOfMemory>
+        ensures { OnOk result (self.new ≡ condition ⧺ code.If note (body ⧺ code.While note condition body Done) Done self.old) }
+    {
+        let first = condition.copy(alloc)?;
+        let again = Body::looped(alloc, note, condition, body)?;
+        self.push(Instr::If(note, again, Body::new(alloc)))?;
+        self.prepend(first)
     }
 
     /// Drops instructions up to the first mark of a monitor, which it takes too: the object's number;

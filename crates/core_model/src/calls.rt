@@ -8,8 +8,7 @@ use crate::object::{Obj, ObjKind};
 use crate::program::{NEW, Program, RUN};
 use crate::stack::Stack;
 use crate::value::Value;
-use desk_base::OutOfMemory;
-use sqlite_items::Items;
+use desk_base::{Items, OutOfMemory};
 use std::alloc::Global;
 
 /// `this` before the arguments.
@@ -51,7 +50,7 @@ impl Frame {
     {
         match call {
             Some(call) => {
-                let mut after = self.goes()?;
+                let mut after = self.goes_on()?;
                 after.calls.push(call)?;
                 Ok(after)
             }
@@ -206,7 +205,7 @@ impl Frame {
     {
         match call {
             Some(call) => {
-                let mut after = self.goes()?;
+                let mut after = self.goes_on()?;
                 after.started = Some(thread_of(alloc, call)?);
                 Ok(after)
             }
@@ -244,7 +243,7 @@ impl Frame {
         ensures { IfOk result (λ a. a ≡ spec.start_from program.now self (started ∷ self.call.temps)) }
     {
         match started {
-            Value::Null => self.goes(),
+            Value::Null => self.goes_on(),
             Value::Ref(object) => {
                 let class = self.objects.class_of(object);
                 self.start_in(alloc, program, started, class)

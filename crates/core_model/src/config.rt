@@ -4,7 +4,7 @@ use crate::instr::UnitId;
 use crate::stack::Stack;
 use crate::threads::Threads;
 use crate::value::Value;
-use sqlite_items::Items;
+use desk_base::Items;
 
 /// What the end of a call pushes onto its caller's temporaries: its result, if it has one, or the
 /// object that it was to make.
@@ -16,7 +16,7 @@ pub enum Gives {
 
 /// A call: its unit, what is left of its code, its locals (those that aren't set yet are null), its
 /// temporaries and what its end pushes.
-#[derive(Debug, Drop)]
+#[derive(Drop)]
 pub struct Call {
     pub unit: UnitId,
     pub rest: Body,
@@ -35,14 +35,14 @@ pub enum Mode {
 }
 
 /// A thread: its calls, the top first, and its mode.
-#[derive(Debug, Drop)]
+#[derive(Drop)]
 pub struct Thread {
     pub calls: Stack<Call>,
     pub mode: Mode,
 }
 
 /// A configuration: its objects and threads, each by its number.
-#[derive(Debug, Drop)]
+#[derive(Drop)]
 pub struct Config {
     pub objects: Heap,
     pub threads: Threads,

@@ -4,8 +4,7 @@ use crate::config::{Call, Config, Thread};
 use crate::stack::Stack;
 use crate::threads::Threads;
 use crate::value::Value;
-use desk_base::OutOfMemory;
-use sqlite_items::Items;
+use desk_base::{Items, OutOfMemory};
 use std::alloc::Global;
 
 impl Call {

@@ -8,7 +8,7 @@ use crate::value::Value;
 use desk_base::OutOfMemory;
 
 /// What a step finds: the objects, the call on top of its thread and those beneath.
-#[derive(Debug, Drop)]
+#[derive(Drop)]
 pub struct Frame {
     pub objects: Heap,
     pub call: Call,
@@ -17,7 +17,7 @@ pub struct Frame {
 
 /// What a step leaves: the objects, the calls and the mode of its thread, and a thread that it
 /// started.
-#[derive(Debug, Drop)]
+#[derive(Drop)]
 pub struct After {
     pub objects: Heap,
     pub calls: Stack<Call>,
@@ -45,8 +45,8 @@ impl Frame {
     }
 
     /// The call on top goes on.
-    pub(crate) fn goes(self) -> Result<After, OutOfMemory>
-        ensures { IfOk result (λ a. a ≡ spec.goes self) }
+    pub(crate) fn goes_on(self) -> Result<After, OutOfMemory>
+        ensures { IfOk result (λ a. a ≡ spec.goes_on self) }
     {
         self.after(Mode::Running)
     }
@@ -64,7 +64,7 @@ impl Frame {
         ensures { IfOk result (λ a. a ≡ spec.push self value) }
     {
         self.call.temps.push(value)?;
-        self.goes()
+        self.goes_on()
     }
 
     /// The same where there is a value; else the thread ends.

@@ -1,6 +1,6 @@
 ghost use Rattle.std.specs.Prelude.{◌≡◌, IfOk, OnOk};
 ghost use Rattle.core_model.specs.CodeOf.{before};
-ghost use Rattle.core_model.specs.Frames.{goes};
+ghost use Rattle.core_model.specs.Frames.{goes_on};
 ghost use Rattle.core_model.specs.Monitors.{exit_object};
 ghost use Rattle.core_model.specs.Step as spec;
 
@@ -67,8 +67,8 @@ impl Frame {
     }
 
     /// The call is left, and the caller goes on; without a caller the thread is over.
-    fn left(self, value: Option<Value>) -> Result<After, OutOfMemory>
-        ensures { IfOk result (λ a. a ≡ spec.left self.objects (spec.given self.call.gives value) self.below) }
+    fn resume_caller(self, value: Option<Value>) -> Result<After, OutOfMemory>
+        ensures { IfOk result (λ a. a ≡ spec.resumed self.objects (spec.given self.call.gives value) self.below) }
     {
         let Frame {
             objects,
@@ -92,8 +92,8 @@ impl Frame {
     }
 
     /// The call is left, and the next one ends; without one the thread is over.
-    fn dropped(self) -> Result<After, OutOfMemory>
-        ensures { IfOk result (λ a. a ≡ spec.dropped self.objects self.below) }
+    fn end_caller(self) -> Result<After, OutOfMemory>
+        ensures { IfOk result (λ a. a ≡ spec.caller_ended self.objects self.below) }
     {
         let Frame {
             objects,
@@ -117,10 +117,10 @@ impl Frame {
     }
 
     fn exit(mut self, object: u32) -> Result<After, OutOfMemory>
-        ensures { IfOk result (λ a. a ≡ goes (exit_object self object)) }
+        ensures { IfOk result (λ a. a ≡ goes_on (exit_object self object)) }
     {
         self.objects.exit(object);
-        self.goes()
+        self.goes_on()
     }
 
     fn instruction(
@@ -130,7 +130,7 @@ impl Frame {
         thread: u32,
         instr: Instr,
     ) -> Result<After, OutOfMemory>
-        ensures { IfOk result (λ a. a ≡ spec.next program.now thread self (before instr self.call.rest)) }
+        ensures { IfOk result (λ a. a ≡ spec.running_step program.now thread self (before instr self.call.rest)) }
     {
         match instr {
             Instr::Do(_, plain) => self.plain(alloc, program, plain),
@@ -143,18 +143,23 @@ impl Frame {
     }
 
     /// A step of a running thread.
-    fn next(mut self, alloc: Global, program: &Program, thread: u32) -> Result<After, OutOfMemory>
-        ensures { IfOk result (λ a. a ≡ spec.next program.now thread self self.call.rest) }
+    fn running_step(
+        mut self,
+        alloc: Global,
+        program: &Program,
+        thread: u32,
+    ) -> Result<After, OutOfMemory>
+        ensures { IfOk result (λ a. a ≡ spec.running_step program.now thread self self.call.rest) }
     {
         match self.call.rest.pop() {
             Some(instr) => self.instruction(alloc, program, thread, instr),
-            None => self.left(None),
+            None => self.resume_caller(None),
         }
     }
 
     /// A step of a thread whose top call is being left.
-    fn leave(mut self, value: Option<Value>) -> Result<After, OutOfMemory>
-        ensures { IfOk result (λ a. a ≡ spec.leave self value (spec.next_exit self.call.rest)) }
+    fn leaving_step(mut self, value: Option<Value>) -> Result<After, OutOfMemory>
+        ensures { IfOk result (λ a. a ≡ spec.leaving_step self value (spec.next_exit self.call.rest)) }
     {
         match self.call.rest.next_exit() {
             Some(object) => {
@@ -162,13 +167,13 @@ impl Frame {
                 self.objects.exit(object);
                 self.after(Mode::Leaving(value))
             }
-            None => self.left(value),
+            None => self.resume_caller(value),
         }
     }
 
     /// A step of a thread that ends.
-    fn unwind(mut self) -> Result<After, OutOfMemory>
-        ensures { IfOk result (λ a. a ≡ spec.unwind self (spec.next_exit self.call.rest)) }
+    fn ending_step(mut self) -> Result<After, OutOfMemory>
+        ensures { IfOk result (λ a. a ≡ spec.ending_step self (spec.next_exit self.call.rest)) }
     {
         match self.call.rest.next_exit() {
             Some(object) => {
@@ -176,37 +181,37 @@ impl Frame {
                 self.objects.exit(object);
                 self.after(Mode::Ending)
             }
-            None => self.dropped(),
+            None => self.end_caller(),
         }
     }
 
-    fn moves(
+    fn step(
         self,
         alloc: Global,
         program: &Program,
         thread: u32,
         mode: Mode,
     ) -> Result<After, OutOfMemory>
-        ensures { IfOk result (λ a. a ≡ spec.move program.now thread self mode) }
+        ensures { IfOk result (λ a. a ≡ spec.call_step program.now thread self mode) }
     {
         match mode {
-            Mode::Running => self.next(alloc, program, thread),
-            Mode::Leaving(value) => self.leave(value),
-            Mode::Ending => self.unwind(),
+            Mode::Running => self.running_step(alloc, program, thread),
+            Mode::Leaving(value) => self.leaving_step(value),
+            Mode::Ending => self.ending_step(),
             Mode::Over => self.after(Mode::Over),
         }
     }
 }
 
 impl Thread {
-    fn moves(
+    fn step(
         self,
         alloc: Global,
         program: &Program,
         objects: Heap,
         thread: u32,
     ) -> Result<After, OutOfMemory>
-        ensures { IfOk result (λ a. a ≡ spec.moved program.now thread objects self self.calls) }
+        ensures { IfOk result (λ a. a ≡ spec.thread_step program.now thread objects self self.calls) }
     {
         let Thread { mut calls, mode } = self;
         match calls.pop() {
@@ -216,7 +221,7 @@ impl Thread {
                     call,
                     below: calls,
                 };
-                frame.moves(alloc, program, thread, mode)
+                frame.step(alloc, program, thread, mode)
             }
             None => Ok(After {
                 objects,
@@ -251,7 +256,7 @@ pub fn advance(
         calls,
         mode,
         started,
-    } = now.moves(alloc, program, objects, thread)?;
+    } = now.step(alloc, program, objects, thread)?;
     threads.set(thread, Thread { calls, mode });
     if let Some(started) = started {
         threads.push(started)?;

@@ -7,8 +7,7 @@ use crate::instr::ClassId;
 use crate::object::{Obj, ObjKind};
 use crate::program::{ClassInfo, FieldInfo, Initial};
 use crate::value::Value;
-use desk_base::OutOfMemory;
-use sqlite_items::Items;
+use desk_base::{Items, OutOfMemory};
 use std::alloc::Global;
 
 /// The values of the fields so far, and the number of the next fresh Object.

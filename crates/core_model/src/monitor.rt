@@ -20,9 +20,8 @@ impl Frame {
     {
         if (object as usize) < self.objects.as_slice().len() {
             self.objects.enter(thread, object)?;
-            self.call.rest.push(Instr::Exit(note, object))?;
-            self.call.rest.prepend(block)?;
-            self.goes()
+            self.call.rest.push_block(note, block, object)?;
+            self.goes_on()
         } else {
             self.ends()
         }
@@ -40,7 +39,7 @@ impl Frame {
         if self.objects.blocks(thread, object) {
             self.call.temps.push(Value::Ref(object))?;
             self.call.rest.push(Instr::Enter(note, block))?;
-            self.goes()
+            self.goes_on()
         } else {
             self.take_monitor(thread, note, block, object)
         }
@@ -86,7 +85,7 @@ impl Frame {
     {
         if self.objects.blocks(thread, class) {
             self.call.rest.push(Instr::EnterClass(note, class, block))?;
-            self.goes()
+            self.goes_on()
         } else {
             self.take_monitor(thread, note, block, class)
         }

@@ -3,8 +3,7 @@ ghost use Rattle.core_model.specs.Objects as spec;
 
 use crate::instr::{ClassId, FieldId};
 use crate::value::Value;
-use desk_base::OutOfMemory;
-use sqlite_items::Items;
+use desk_base::{Items, OutOfMemory};
 use std::alloc::Global;
 
 /// What an object is: the holder of a class, made of a class, or a fresh Object.
@@ -16,7 +15,7 @@ pub enum ObjKind {
 }
 
 /// An object: its fields, and its monitor's owner and count of entries.
-#[derive(Debug, Drop)]
+#[derive(Drop)]
 pub struct Obj {
     pub kind: ObjKind,
     pub fields: Items<Value>,

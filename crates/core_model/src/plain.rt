@@ -1,7 +1,7 @@
 ghost use Rattle.std.specs.Prelude.{◌≡◌, ◌∷◌, IfOk};
 ghost use Rattle.core_model.specs.Straight as spec;
 
-use crate::body::{Body, Instr};
+use crate::body::Body;
 use crate::config::Mode;
 use crate::frame::{After, Frame};
 use crate::instr::{ClassId, FieldId, Note, Op};
@@ -23,7 +23,7 @@ impl Frame {
     {
         if (local as usize) < self.call.locals.len() {
             self.call.locals.set(local as usize, value);
-            self.goes()
+            self.goes_on()
         } else {
             self.ends()
         }
@@ -42,7 +42,7 @@ impl Frame {
         ensures { IfOk result (λ a. a ≡ spec.drop_from self self.call.temps) }
     {
         match self.call.temps.pop() {
-            Some(_) => self.goes(),
+            Some(_) => self.goes_on(),
             None => self.ends(),
         }
     }
@@ -98,7 +98,7 @@ impl Frame {
     {
         if self.objects.field(object, field).is_some() {
             self.objects.put(object, field, value);
-            self.goes()
+            self.goes_on()
         } else {
             self.ends()
         }
@@ -219,7 +219,7 @@ impl Frame {
         match value {
             Value::Bool(truth) => {
                 self.call.rest.prepend(if truth { yes } else { no })?;
-                self.goes()
+                self.goes_on()
             }
             _ => self.ends(),
         }
@@ -243,15 +243,7 @@ impl Frame {
     ) -> Result<After, OutOfMemory>
         ensures { IfOk result (λ a. a ≡ spec.turn self note condition body) }
     {
-        let first = condition.copy(alloc)?;
-        let mut again = Body::new(alloc);
-        let turned = body.copy(alloc)?;
-        again.push(Instr::While(note, condition, body))?;
-        again.prepend(turned)?;
-        self.call
-            .rest
-            .push(Instr::If(note, again, Body::new(alloc)))?;
-        self.call.rest.prepend(first)?;
-        self.goes()
+        self.call.rest.push_turn(alloc, note, condition, body)?;
+        self.goes_on()
     }
 }

@@ -4,8 +4,7 @@ ghost use Rattle.std.specs.Option.{option_copied};
 use crate::body::Body;
 use crate::instr::{ClassId, MemberId, UnitId};
 use crate::value::Value;
-use desk_base::{Name, Text};
-use sqlite_items::Items;
+use desk_base::{Items, Name, Text};
 
 /// The number of the member name `new`, which a constructor has.
 pub const NEW: MemberId = 0;
@@ -23,7 +22,7 @@ pub enum Initial {
     FreshObject,
 }
 
-#[derive(Debug, Drop)]
+#[derive(Drop)]
 pub struct FieldInfo {
     pub name: Name,
     pub is_static: bool,
@@ -40,7 +39,7 @@ pub struct UnitName {
 }
 
 /// A declared class or interface: its fields and members in written order.
-#[derive(Debug, Drop)]
+#[derive(Drop)]
 pub struct ClassInfo {
     pub name: Name,
     pub fields: Items<FieldInfo>,
@@ -48,7 +47,7 @@ pub struct ClassInfo {
 }
 
 /// A unit's code. Its locals are `this`, where there is one, the parameters and then the others.
-#[derive(Debug, Drop)]
+#[derive(Drop)]
 pub struct UnitCode {
     pub key: Text,
     pub class: ClassId,
@@ -59,7 +58,7 @@ pub struct UnitCode {
 
 /// A program: its classes and interfaces in order of name, its units, the classes with a main, and
 /// the names of members, of which the first three are `new`, `main` and `run`.
-#[derive(Debug, Drop)]
+#[derive(Drop)]
 pub struct Program {
     pub classes: Items<ClassInfo>,
     pub units: Items<UnitCode>,

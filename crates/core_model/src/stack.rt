@@ -1,13 +1,12 @@
 ghost use Rattle.std.specs.Prelude.{◌≡◌, ◌≤◌, [], ◌∷◌, length, take, drop, reverse, slice_get, MatchOption, OnOk, IfOk};
 ghost use Rattle.std.specs.Option.{option_copied};
 
-use desk_base::OutOfMemory;
-use sqlite_items::Items;
+use desk_base::{Items, OutOfMemory};
 use std::alloc::Global;
 use std::marker::Model;
 
 /// A stack. Contracts see the list of its items, the top first.
-#[derive(Debug, Drop)]
+#[derive(Drop)]
 pub struct Stack<T> {
     items: Vec<T>,
 }

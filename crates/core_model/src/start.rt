@@ -11,8 +11,7 @@ use crate::program::{ClassInfo, MAIN, Program};
 use crate::stack::Stack;
 use crate::threads::Threads;
 use crate::value::Value;
-use desk_base::OutOfMemory;
-use sqlite_items::Items;
+use desk_base::{Items, OutOfMemory};
 use std::alloc::Global;
 
 /// The holders of the classes so far, and the number of the next fresh Object.

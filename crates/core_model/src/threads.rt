@@ -9,7 +9,7 @@ use std::marker::Model;
 use std::mem;
 
 /// The threads of a configuration. Contracts see the list of them.
-#[derive(Debug, Drop)]
+#[derive(Drop)]
 pub struct Threads {
     threads: Vec<Thread>,
 }

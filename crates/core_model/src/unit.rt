@@ -6,8 +6,7 @@ use crate::instr::{ClassId, MemberId, UnitId};
 use crate::program::{ClassInfo, Program, UnitCode};
 use crate::stack::Stack;
 use crate::value::Value;
-use desk_base::OutOfMemory;
-use sqlite_items::Items;
+use desk_base::{Items, OutOfMemory};
 use std::alloc::Global;
 
 /// The arguments, and null in the locals after them.

@@ -11,6 +11,7 @@ use Rattle.core_model.specs.Objects.{class_of, made, new_object, fresh_object, f
 use Rattle.core_model.specs.Units.{unit_number, call_with, call_for, call_of}
 use Rattle.core_model.specs.declared.instr.Known.{Known}
 use Rattle.core_model.specs.declared.instr.Known.TheVariants as known
+use Rattle.core_model.specs.declared.program.TheConstants.{NEW, RUN}
 use Rattle.core_model.specs.declared.program.Program.{Program}
 use Rattle.core_model.specs.declared.program.ClassInfo.{ClassInfo}
 use Rattle.core_model.specs.declared.program.UnitCode.{UnitCode}
@@ -23,9 +24,9 @@ use Rattle.core_model.specs.declared.frame.Frame.{Frame}
 use Rattle.core_model.specs.declared.frame.After.{After}
 use Rattle.core_model.specs.declared.value.Value.{Value}
 use Rattle.core_model.specs.declared.value.Value.TheVariants as value
-use Rattle.core_types.specs.Types.{Ty, ClassType, RunnableType, AnyType, Types, of_class, of_unit, args_of, not_empty, is_instance, has, is_class, is_runnable}
+use Rattle.core_types.specs.Types.{Ty, ClassType, RunnableType, Types, of_class, of_unit, args_of, not_empty, is_instance, has, is_class, is_runnable}
 use Rattle.core_types.specs.Belonging.{refers, may_run, is_of, Belongs, AllBelong}
-use Rattle.core_types.specs.Uses.{Goes, Wrong, constructed, of_make, called, called_on, called_static, of_call}
+use Rattle.core_types.specs.Uses.{Goes, Wrong, lists_name, made_bare, unless_new, constructed, of_make, called, called_on, called_static, of_call}
 use Rattle.core_types.specs.Need.{need_of, AllSuit, UseFits}
 use Rattle.core_types.specs.Programs.{ThisFits, IsAlike, RunFits, ProgramFits}
 use Rattle.core_types.specs.Configs.{GivesThere, IsThere, LocalFits, need_in, TopFits, Awaits, known_beneath}
@@ -85,7 +86,7 @@ local-begun T os (v ∷ args) more [] others i less h = absurd h
 local-begun T os (v ∷ args) more (t ∷ ts) others zero less h = h.0
 local-begun T os (v ∷ args) more (t ∷ ts) others (suc i) less h = local-begun T os args more ts others i (omega (arith, less)) h.1
 
-this-is : (c : ℕ) (ts : List Ty) → not_empty ts ≡ true → ThisFits c ts → ts ≡ ClassType c ∷ []
+pub this-is : (c : ℕ) (ts : List Ty) → not_empty ts ≡ true → ThisFits c ts → ts ≡ ClassType c ∷ []
 this-is c [] e h = absurd (let no : ⊥ = cc in no)
 this-is c (t ∷ ts) e h = rw (h.0, h.1) refl
 
@@ -213,20 +214,20 @@ module _ (p : Program) (T : Types) (program : ProgramFits p T) where
       (eqb_tells d.0 c)
 
   answer-found : (os : List Obj) (r d : ℕ) (o : Obj) (v : Option ℕ) → slice_get os r ≡ Some o → o.kind ≡ kind.Made d
-      → unit_number p d 2 0 ≡ v → RunFits T v → Answer os 2 0 r [] None
+      → unit_number p d RUN 0 ≡ v → RunFits T v → Answer os RUN 0 r [] None
   answer-found os r d o None e k number h = absurd h
   answer-found os r d o (Some v) e k number h =
-      answer os 2 0 r d v o [] None e k number h.0 (empty-is (of_unit T v).params (member-at p T program d 2 0 v number).count) h.1
+      answer os RUN 0 r d v o [] None e k number h.0 (empty-is (of_unit T v).params (member-at p T program d RUN 0 v number).count) h.1
     where
       empty-is : (ts : List Ty) → length ts ≡ 0 → ts ≡ []
       empty-is [] e = refl
       empty-is (t ∷ ts) e = absurd (omega (arith, e))
 
-  answer-run : (os : List Obj) (r : ℕ) → Belongs T os (value.Ref r) RunnableType → Answer os 2 0 r [] None
+  answer-run : (os : List Obj) (r : ℕ) → Belongs T os (value.Ref r) RunnableType → Answer os RUN 0 r [] None
   answer-run os r h =
       let at = is-there os r (may_run T) h in
       let d = runs-is T at.obj.kind at.passes in
-      answer-found os r d.0 at.obj (unit_number p d.0 2 0) at.found d.1 refl (program.runs d.0 d.2)
+      answer-found os r d.0 at.obj (unit_number p d.0 RUN 0) at.found d.1 refl (program.runs d.0 d.2)
 
   answered : (f : Frame) (m n r : ℕ) (vs : List Value) (ps : List Ty) (res : Option Ty) → Good p T f → Answer f.objects m n r ps res
       → AllBelong T f.objects vs ps → Awaits T f.objects Own res f.call.temps (need_in p T f.call)
@@ -300,26 +301,33 @@ module _ (p : Program) (T : Types) (program : ProgramFits p T) where
       chosen true i s h = on-class f c m n u ts e i g s h
       chosen false i s h = absurd s
 
-  on-runnable : (f : Frame) (m n : ℕ) (ts : List Value) → m ≡ 2 → n ≡ 0 → Good p T f
+  on-named : (f : Frame) (c m n : ℕ) (ts : List Value) (new : Bool) → Good p T f
+      → UseFits T (if new then Wrong else called_on T (unit_number p c m n)) (need_in p T f.call)
+      → AllBelong T f.objects ts (need_of (if new then Wrong else called_on T (unit_number p c m n)) (need_in p T f.call))
+      → Kept p T (null_under n ts) (call_from p f m n ts)
+  on-named f c m n ts true g s h = absurd s
+  on-named f c m n ts false g s h = on-number f c m n (unit_number p c m n) ts refl g s h
+
+  on-runnable : (f : Frame) (m n : ℕ) (ts : List Value) → m ≡ RUN → n ≡ 0 → Good p T f
       → AllBelong T f.objects ts (RunnableType ∷ need_in p T f.call) → Kept p T (null_under n ts) (call_from p f m n ts)
   on-runnable f m n ts em en g h =
-      rw (em, en) (call-kept f 2 0 ts RunnableType [] (need_in p T f.call) (may_run T) None g refl h
+      rw (em, en) (call-kept f RUN 0 ts RunnableType [] (need_in p T f.call) (may_run T) None g refl h
       (λ v b. b) (λ r b. answer-run f.objects r b) (λ vs b. b))
 
   pub of-call-kept : (f : Frame) (k : Known) (m n : ℕ) (ts : List Value) → Good p T f → UseFits T (of_call p T k m n) (need_in p T f.call)
       → AllBelong T f.objects ts (need_of (of_call p T k m n) (need_in p T f.call)) → Kept p T (null_under n ts) (call_from p f m n ts)
-  of-call-kept f known.Nothing m n ts g s h = chosen (m == 2) (n == 0) refl refl s h
+  of-call-kept f known.Nothing m n ts g s h = chosen (m == RUN) (n == 0) refl refl s h
     where
       equal : (a b : ℕ) → (a == b) ≡ true → a ≡ b
       equal a b e = ⊎_elim (λ y. y.1) (λ d. absurd (let no : ⊥ = cc in no)) (eqb_tells a b)
 
-      chosen : (x y : Bool) → (m == 2) ≡ x → (n == 0) ≡ y → UseFits T (if x && y then Goes (RunnableType ∷ []) [] else Wrong) (need_in p T f.call)
+      chosen : (x y : Bool) → (m == RUN) ≡ x → (n == 0) ≡ y → UseFits T (if x && y then Goes (RunnableType ∷ []) [] else Wrong) (need_in p T f.call)
           → AllBelong T f.objects ts (need_of (if x && y then Goes (RunnableType ∷ []) [] else Wrong) (need_in p T f.call))
           → Kept p T (null_under n ts) (call_from p f m n ts)
-      chosen true true em en s h = on-runnable f m n ts (equal m 2 em) (equal n 0 en) g h
+      chosen true true em en s h = on-runnable f m n ts (equal m RUN em) (equal n 0 en) g h
       chosen true false em en s h = absurd s
       chosen false y em en s h = absurd s
-  of-call-kept f (known.Class c) m n ts g s h = on-number f c m n (unit_number p c m n) ts refl g s h
+  of-call-kept f (known.Class c) m n ts g s h = on-named f c m n ts (m == NEW) g s h
   of-call-kept f (known.Monitor k) m n ts g s h = absurd s
 
   -- ---- a static call
@@ -353,9 +361,18 @@ module _ (p : Program) (T : Types) (program : ProgramFits p T) where
       chosen true i s h = absurd s
       chosen false i s h = static-in f c m n u ts e i g s h
 
-  pub call-static-kept : (f : Frame) (c m n : ℕ) (ts : List Value) → Good p T f → UseFits T (called_static T (unit_number p c m n)) (need_in p T f.call)
-      → AllBelong T f.objects ts (need_of (called_static T (unit_number p c m n)) (need_in p T f.call)) → Kept p T false (call_static_from p f c m n ts)
-  call-static-kept f c m n ts g s h = static-number f c m n (unit_number p c m n) ts refl g s h
+  static-named : (f : Frame) (c m n : ℕ) (ts : List Value) (new : Bool) → Good p T f
+      → UseFits T (if new then Wrong else called_static T (unit_number p c m n)) (need_in p T f.call)
+      → AllBelong T f.objects ts (need_of (if new then Wrong else called_static T (unit_number p c m n)) (need_in p T f.call))
+      → Kept p T false (call_static_from p f c m n ts)
+  static-named f c m n ts true g s h = absurd s
+  static-named f c m n ts false g s h = static-number f c m n (unit_number p c m n) ts refl g s h
+
+  pub call-static-kept : (f : Frame) (c m n : ℕ) (ts : List Value) → Good p T f
+      → UseFits T (unless_new m (called_static T (unit_number p c m n))) (need_in p T f.call)
+      → AllBelong T f.objects ts (need_of (unless_new m (called_static T (unit_number p c m n))) (need_in p T f.call))
+      → Kept p T false (call_static_from p f c m n ts)
+  call-static-kept f c m n ts g s h = static-named f c m n ts (m == NEW) g s h
 
   -- ---- objects that are made
 
@@ -382,21 +399,21 @@ module _ (p : Program) (T : Types) (program : ProgramFits p T) where
   awaits-made os r c res ts (n ∷ l) b s h = (s.0 os (value.Ref r) b, h)
 
   -- f has the arguments taken; the new object is there
-  construct-kept : (f : Frame) (c n r u : ℕ) (args : List Value) → unit_number p c 0 n ≡ Some u → is_instance (of_unit T u) ≡ true → Good p T f
+  construct-kept : (f : Frame) (c n r u : ℕ) (args : List Value) → unit_number p c NEW n ≡ Some u → is_instance (of_unit T u) ≡ true → Good p T f
       → Belongs T f.objects (value.Ref r) (ClassType c) → AllBelong T f.objects args (of_unit T u).params → AllSuit T (ClassType c ∷ []) (need_in p T f.call)
       → AllBelong T f.objects f.call.temps (drop 1 (need_in p T f.call)) → Kept p T false (construct p f r args (Some u))
   construct-kept f c n r u args number instance g b h s t =
-      let member = member-at p T program c 0 n u number in
+      let member = member-at p T program c NEW n u number in
       begins-kept f (Object r) u (value.Ref r ∷ args) g member.there
       (rw (this-is c (of_unit T u).this instance member.this) (b, h)) (belongs-any T f.objects (value.Ref r) (ClassType c) b)
       (awaits-made f.objects r c (of_unit T u).result f.call.temps (need_in p T f.call) b s t)
 
-  make-unit : (f : Frame) (c n u : ℕ) (info : ClassInfo) (ts : List Value) → unit_number p c 0 n ≡ Some u → is_instance (of_unit T u) ≡ true
+  make-unit : (f : Frame) (c n u : ℕ) (info : ClassInfo) (ts : List Value) → unit_number p c NEW n ≡ Some u → is_instance (of_unit T u) ≡ true
       → slice_get p.classes c ≡ Some info → Good p T f → AllSuit T (ClassType c ∷ []) (need_in p T f.call)
       → AllBelong T f.objects ts (reverse (of_unit T u).params ++ drop 1 (need_in p T f.call))
       → Kept p T false (make_from p f c n ts)
   make-unit f c n u info ts number instance e g s h =
-      let member = member-at p T program c 0 n u number in
+      let member = member-at p T program c NEW n u number in
       let us : List Ty = drop 1 (need_in p T f.call) in
       let args = args-belong T f.objects ts (of_unit T u).params us n (sym member.count) h in
       let few : n ≤ length ts = omega (arith, enough T f.objects ts (of_unit T u).params us h, member.count) in
@@ -411,34 +428,35 @@ module _ (p : Program) (T : Types) (program : ProgramFits p T) where
       (subst (λ (o : Option ClassInfo). Kept p T false (make_of p (with_temps f (drop n ts)) c n (reverse (take n ts)) o)) (sym e)
       (subst (λ (o : Option ℕ). Kept p T false (construct p (with_objects (with_temps f (drop n ts)) ns) (length f.objects) (reverse (take n ts)) o)) (sym number) body))
 
-  any-long : (n : ℕ) → length (replicate n AnyType) ≡ n
-  any-long n = length-replicate n AnyType
-
-  make-bare : (f : Frame) (c n : ℕ) (info : ClassInfo) (ts : List Value) → unit_number p c 0 n ≡ None
+  -- without a constructor there are no arguments
+  make-bare : (f : Frame) (c : ℕ) (info : ClassInfo) (ts : List Value) → unit_number p c NEW 0 ≡ None
       → slice_get p.classes c ≡ Some info → Good p T f → AllSuit T (ClassType c ∷ []) (need_in p T f.call)
-      → AllBelong T f.objects ts (replicate n AnyType ++ drop 1 (need_in p T f.call))
-      → Kept p T false (make_from p f c n ts)
-  make-bare f c n info ts number e g s h =
+      → AllBelong T f.objects ts (drop 1 (need_in p T f.call)) → Kept p T false (make_from p f c 0 ts)
+  make-bare f c info ts number e g s h =
       let us : List Ty = drop 1 (need_in p T f.call) in
-      let under : AllBelong T f.objects (drop n ts) us =
-      subst (λ m. AllBelong T f.objects (drop m ts) us) (any-long n) (all-drop T f.objects ts (replicate n AnyType) us h) in
-      let few : n ≤ length ts =
-      omega (arith, all-long T f.objects ts (replicate n AnyType ++ us) h, length-append (replicate n AnyType) us, any-long n) in
+      let few : 0 ≤ length ts = omega arith in
       let ns : List Obj = made f.objects c info.fields in
-      let body : Kept p T false (construct p (with_objects (with_temps f (drop n ts)) ns) (length f.objects) (reverse (take n ts)) None) =
-      push-kept p T program (with_objects (with_temps f (drop n ts)) ns) (value.Ref (length f.objects)) (ClassType c)
-      (temps p T program (with_objects f ns) (drop n ts) (made-good f c info e g)) s
-      (all-grow T f.objects ns (drop n ts) us (made-grows f c info) under) (new-belongs f c info) in
-      if-kept p T program (nat_le n (length ts)) (make_of p (with_temps f (drop n ts)) c n (reverse (take n ts)) (slice_get p.classes c)) (ends f)
-      (le-leb n (length ts) few)
-      (subst (λ (o : Option ClassInfo). Kept p T false (make_of p (with_temps f (drop n ts)) c n (reverse (take n ts)) o)) (sym e)
-      (subst (λ (o : Option ℕ). Kept p T false (construct p (with_objects (with_temps f (drop n ts)) ns) (length f.objects) (reverse (take n ts)) o)) (sym number) body))
+      let body : Kept p T false (construct p (with_objects (with_temps f (drop 0 ts)) ns) (length f.objects) (reverse (take 0 ts)) None) =
+      push-kept p T program (with_objects (with_temps f (drop 0 ts)) ns) (value.Ref (length f.objects)) (ClassType c)
+      (temps p T program (with_objects f ns) (drop 0 ts) (made-good f c info e g)) s
+      (all-grow T f.objects ns (drop 0 ts) us (made-grows f c info) h) (new-belongs f c info) in
+      if-kept p T program (nat_le 0 (length ts)) (make_of p (with_temps f (drop 0 ts)) c 0 (reverse (take 0 ts)) (slice_get p.classes c)) (ends f)
+      (le-leb 0 (length ts) few)
+      (subst (λ (o : Option ClassInfo). Kept p T false (make_of p (with_temps f (drop 0 ts)) c 0 (reverse (take 0 ts)) o)) (sym e)
+      (subst (λ (o : Option ℕ). Kept p T false (construct p (with_objects (with_temps f (drop 0 ts)) ns) (length f.objects) (reverse (take 0 ts)) o)) (sym number) body))
 
-  make-number : (f : Frame) (c n : ℕ) (info : ClassInfo) (o : Option ℕ) (ts : List Value) → unit_number p c 0 n ≡ o → slice_get p.classes c ≡ Some info
-      → Good p T f → UseFits T (constructed T c n o) (need_in p T f.call) → AllBelong T f.objects ts (need_of (constructed T c n o) (need_in p T f.call))
+  make-none : (f : Frame) (c n : ℕ) (info : ClassInfo) (listed : Bool) (ts : List Value) → unit_number p c NEW n ≡ None → slice_get p.classes c ≡ Some info
+      → Good p T f → UseFits T (made_bare c n listed) (need_in p T f.call) → AllBelong T f.objects ts (need_of (made_bare c n listed) (need_in p T f.call))
       → Kept p T false (make_from p f c n ts)
-  make-number f c n info None ts number e g s h = make-bare f c n info ts number e g s h
-  make-number f c n info (Some u) ts number e g s h = chosen (is_instance (of_unit T u)) refl s h
+  make-none f c zero info true ts number e g s h = absurd s
+  make-none f c zero info false ts number e g s h = make-bare f c info ts number e g s h
+  make-none f c (suc n) info listed ts number e g s h = absurd s
+
+  make-number : (f : Frame) (c n : ℕ) (info : ClassInfo) (listed : Bool) (o : Option ℕ) (ts : List Value) → unit_number p c NEW n ≡ o
+      → slice_get p.classes c ≡ Some info → Good p T f → UseFits T (constructed T c n listed o) (need_in p T f.call)
+      → AllBelong T f.objects ts (need_of (constructed T c n listed o) (need_in p T f.call)) → Kept p T false (make_from p f c n ts)
+  make-number f c n info listed None ts number e g s h = make-none f c n info listed ts number e g s h
+  make-number f c n info listed (Some u) ts number e g s h = chosen (is_instance (of_unit T u)) refl s h
     where
       chosen : (x : Bool) → is_instance (of_unit T u) ≡ x
           → UseFits T (if x then Goes (reverse (of_unit T u).params) (ClassType c ∷ []) else Wrong) (need_in p T f.call)
@@ -451,7 +469,7 @@ module _ (p : Program) (T : Types) (program : ProgramFits p T) where
       → UseFits T (of_make p T c n o) (need_in p T f.call) → AllBelong T f.objects ts (need_of (of_make p T c n o) (need_in p T f.call))
       → Kept p T false (make_from p f c n ts)
   make-class f c n None ts e g s h = absurd s
-  make-class f c n (Some info) ts e g s h = make-number f c n info (unit_number p c 0 n) ts refl e g s h
+  make-class f c n (Some info) ts e g s h = make-number f c n info (lists_name NEW info.units) (unit_number p c NEW n) ts refl e g s h
 
   pub make-kept : (f : Frame) (c n : ℕ) (ts : List Value) → Good p T f → UseFits T (of_make p T c n (slice_get p.classes c)) (need_in p T f.call)
       → AllBelong T f.objects ts (need_of (of_make p T c n (slice_get p.classes c)) (need_in p T f.call)) → Kept p T false (make_from p f c n ts)
@@ -459,10 +477,10 @@ module _ (p : Program) (T : Types) (program : ProgramFits p T) where
 
   -- ---- threads that are started
 
-  starts-kept : (f : Frame) (r : ℕ) (ts : List Value) → Good p T f → Answer f.objects 2 0 r [] None → AllBelong T f.objects ts (need_in p T f.call)
+  starts-kept : (f : Frame) (r : ℕ) (ts : List Value) → Good p T f → Answer f.objects RUN 0 r [] None → AllBelong T f.objects ts (need_in p T f.call)
       → Kept p T false (start_from p f (value.Ref r ∷ ts))
   starts-kept f r ts g a h =
-      let code = class-is (slice_get p.units a.unit) (member-at p T program a.class 2 0 a.unit a.number).there in
+      let code = class-is (slice_get p.units a.unit) (member-at p T program a.class RUN 0 a.unit a.number).there in
       let top = begun-fits f.objects a.unit code.0 (value.Ref r ∷ []) Own code.1 (a.takes [] tt) in
       let gone = go p T program f ts g h in
       subst (λ (o : Option ℕ). Kept p T false (start_in p (with_temps f ts) (value.Ref r) o)) (sym a.of_class_is)

@@ -6,46 +6,61 @@ use Rattle.core_model.specs.declared.instr.Plain.{Plain}
 use Rattle.core_model.specs.declared.instr.Plain.TheVariants as plain
 use Rattle.core_model.specs.declared.program.Program.{Program}
 use Rattle.core_laws.specs.Places.{again}
-use Rattle.core_types.specs.Types.{Ty, BoolType, ObjectType, Types, UnitTypes}
-use Rattle.core_types.specs.Need.{need, need_of, Fits}
-use Rattle.core_types.specs.Uses.{use_of}
+use Rattle.core_types.specs.Types.{Ty, Types, UnitTypes}
+use Rattle.core_types.specs.Belonging.{Suits}
+use Rattle.core_types.specs.Slots.{Uses, need_by, FitsBy}
+use Rattle.core_types.specs.Need.{need, need_of, by_type, Fits}
 use Rattle.core_types.specs.Paths.{reads, reads_by, ends, ends_by, pushes_true, is_done, is_always_true}
 
 -- ---- temporaries
 
+module _ {S : Type 0} (Suits : S → S → Type 0) (u : Uses S) where
+  pub need_by-append : (a k : Code) (l : List S) → need_by u (a ⧺ k) l ≡ need_by u a (need_by u k l)
+  need_by-append Done k l = refl
+  need_by-append (Do n i s) k l = ap (need_of (u.use_by n i)) (need_by-append s k l)
+  need_by-append (If n a b s) k l = ap (λ m. u.flag ∷ need_by u a m) (need_by-append s k l)
+  need_by-append (While n c b s) k l = need_by-append s k l
+  need_by-append (Enter n b s) k l = ap (λ m. u.monitor n ∷ need_by u b m) (need_by-append s k l)
+  need_by-append (EnterClass n c b s) k l = ap (λ m. need_by u b m) (need_by-append s k l)
+  need_by-append (Exit n r s) k l = need_by-append s k l
+
+  pub fits_by-append : (a k : Code) (l : List S) → FitsBy Suits u a (need_by u k l) → FitsBy Suits u k l → FitsBy Suits u (a ⧺ k) l
+  fits_by-append Done k l h g = g
+  fits_by-append (Do n i s) k l h g = (rw (need_by-append s k l) h.0, fits_by-append s k l h.1 g)
+  fits_by-append (If n a b s) k l h g =
+      (rw (need_by-append s k l) h.0, rw (need_by-append s k l) h.1, rw (need_by-append s k l) h.2, fits_by-append s k l h.3 g)
+  fits_by-append (While n c b s) k l h g =
+      (rw (need_by-append s k l) h.0, rw (need_by-append s k l) h.1, rw (need_by-append s k l) h.2, rw (need_by-append s k l) h.3, fits_by-append s k l h.4 g)
+  fits_by-append (Enter n b s) k l h g = (rw (need_by-append s k l) h.0, fits_by-append s k l h.1 g)
+  fits_by-append (EnterClass n c b s) k l h g = (h.0, rw (need_by-append s k l) h.1, fits_by-append s k l h.2 g)
+  fits_by-append (Exit n r s) k l h g = fits_by-append s k l h g
+
+  pub need_by-turn : (n : Note) (c b k : Code) (l : List S) → FitsBy Suits u (While n c b k) l
+      → need_by u (c ⧺ again n c b k) l ≡ need_by u k l
+  need_by-turn n c b k l h =
+      need_by-append c (again n c b k) l
+      ∙ ap (λ m. need_by u c (u.flag ∷ m)) (need_by-append b (While n c b Done) (need_by u k l) ∙ h.1) ∙ h.0
+
+  pub fits_by-turn : (n : Note) (c b k : Code) (l : List S) → FitsBy Suits u (While n c b k) l → FitsBy Suits u (c ⧺ again n c b k) l
+  fits_by-turn n c b k l h =
+      let inner : need_by u (b ⧺ While n c b Done) (need_by u k l) ≡ need_by u k l =
+      need_by-append b (While n c b Done) (need_by u k l) ∙ h.1 in
+      fits_by-append c (again n c b k) l (rw inner h.2)
+      (inner, fits_by-append b (While n c b Done) (need_by u k l) h.3 (h.0, h.1, h.2, h.3, tt), tt, h.4)
+
 module _ (p : Program) (T : Types) (u : UnitTypes) where
   pub need-append : (a k : Code) (l : List Ty) → need p T u (a ⧺ k) l ≡ need p T u a (need p T u k l)
-  need-append Done k l = refl
-  need-append (Do n i s) k l = ap (need_of (use_of p T u n i)) (need-append s k l)
-  need-append (If n a b s) k l = ap (λ m. BoolType ∷ need p T u a m) (need-append s k l)
-  need-append (While n c b s) k l = need-append s k l
-  need-append (Enter n b s) k l = ap (λ m. ObjectType ∷ need p T u b m) (need-append s k l)
-  need-append (EnterClass n c b s) k l = ap (λ m. need p T u b m) (need-append s k l)
-  need-append (Exit n r s) k l = need-append s k l
+  need-append a k l = need_by-append (Suits T) (by_type p T u) a k l
 
   pub fits-append : (a k : Code) (l : List Ty) → Fits p T u a (need p T u k l) → Fits p T u k l → Fits p T u (a ⧺ k) l
-  fits-append Done k l h g = g
-  fits-append (Do n i s) k l h g = (rw (need-append s k l) h.0, fits-append s k l h.1 g)
-  fits-append (If n a b s) k l h g =
-      (rw (need-append s k l) h.0, rw (need-append s k l) h.1, rw (need-append s k l) h.2, fits-append s k l h.3 g)
-  fits-append (While n c b s) k l h g =
-      (rw (need-append s k l) h.0, rw (need-append s k l) h.1, rw (need-append s k l) h.2, rw (need-append s k l) h.3, fits-append s k l h.4 g)
-  fits-append (Enter n b s) k l h g = (rw (need-append s k l) h.0, fits-append s k l h.1 g)
-  fits-append (EnterClass n c b s) k l h g = (h.0, rw (need-append s k l) h.1, fits-append s k l h.2 g)
-  fits-append (Exit n r s) k l h g = fits-append s k l h g
+  fits-append a k l h g = fits_by-append (Suits T) (by_type p T u) a k l h g
 
   pub need-turn : (n : Note) (c b k : Code) (l : List Ty) → Fits p T u (While n c b k) l
       → need p T u (c ⧺ again n c b k) l ≡ need p T u k l
-  need-turn n c b k l h =
-      need-append c (again n c b k) l
-      ∙ ap (λ m. need p T u c (BoolType ∷ m)) (need-append b (While n c b Done) (need p T u k l) ∙ h.1) ∙ h.0
+  need-turn n c b k l h = need_by-turn (Suits T) (by_type p T u) n c b k l h
 
   pub fits-turn : (n : Note) (c b k : Code) (l : List Ty) → Fits p T u (While n c b k) l → Fits p T u (c ⧺ again n c b k) l
-  fits-turn n c b k l h =
-      let inner : need p T u (b ⧺ While n c b Done) (need p T u k l) ≡ need p T u k l =
-      need-append b (While n c b Done) (need p T u k l) ∙ h.1 in
-      fits-append c (again n c b k) l (rw inner h.2)
-      (inner, fits-append b (While n c b Done) (need p T u k l) h.3 (h.0, h.1, h.2, h.3, tt), tt, h.4)
+  fits-turn n c b k l h = fits_by-turn (Suits T) (by_type p T u) n c b k l h
 
 -- ---- reading locals
 

@@ -12,3 +12,6 @@ pub mod Numbers
 pub mod Sampled
 pub mod Refused
 pub mod Reached
+pub mod Present
+pub mod Coming
+pub mod Sparing

@@ -2,13 +2,13 @@
 use Rattle.std.proofs.Common.{◌≡◌, ℕ, Bool, true, false, List, [], ◌∷◌, Option, Some, None, slice_get, slice_set, refl, sym, ap, ◌∙◌, subst}
 use Rattle.std.specs.Option.{option_to_list}
 use Rattle.core_model.specs.Code.{Code, Done, Do, If, While, Enter, EnterClass, Exit}
-use Rattle.core_model.specs.Frames.{with_temps, with_rest, goes}
+use Rattle.core_model.specs.Frames.{with_temps, with_rest, goes_on}
 use Rattle.core_model.specs.Straight.{branch_from}
 use Rattle.core_model.specs.Calling.{begins, start_with}
 use Rattle.core_model.specs.Monitors.{take_monitor, enter_from, enter_class}
 use Rattle.core_model.specs.Objects.{blocks}
 use Rattle.core_model.specs.Units.{call_of}
-use Rattle.core_model.specs.Step.{given, left, dropped, next, next_exit, leave, unwind, move, moved, step_of, step}
+use Rattle.core_model.specs.Step.{given, resumed, caller_ended, running_step, next_exit, leaving_step, ending_step, call_step, thread_step, step_of, step}
 use Rattle.core_model.specs.declared.instr.Note.{Note}
 use Rattle.core_model.specs.declared.program.Program.{Program}
 use Rattle.core_model.specs.declared.object.Obj.{Obj}
@@ -37,9 +37,9 @@ after_of a = record { calls = a.calls; mode = a.mode }
 
 -- the thread that stepped has what the step leaves
 thread-after : (p : Program) (c : Config) (t : ℕ) (h : Thread) → slice_get c.threads t ≡ Some h
-    → slice_get (step p c t).threads t ≡ Some (after_of (moved p t c.objects h h.calls))
+    → slice_get (step p c t).threads t ≡ Some (after_of (thread_step p t c.objects h h.calls))
 thread-after p c t h e =
-    let a : After = moved p t c.objects h h.calls in
+    let a : After = thread_step p t c.objects h h.calls in
     let there : slice_get (step_of p c t (Some h)).threads t ≡ Some (after_of a) =
     get-front (slice_set c.threads t (after_of a)) (option_to_list a.started) t (after_of a) (get-set c.threads t h (after_of a) e) in
     subst (λ o. slice_get (step_of p c t o).threads t ≡ Some (after_of a)) (sym e) there
@@ -115,12 +115,12 @@ enter-has p t f n b (value.Bool c ∷ ts) = refl
 enter-has p t f n b (value.Str s ∷ ts) = refl
 enter-has p t f n b (value.Null ∷ ts) = refl
 enter-has p t f n b (value.Ref r ∷ ts) =
-    kept-if p Any HasCalls (keeping p) (blocks t (slice_get f.objects r)) (goes (with_temps (with_rest f (Enter n b f.call.rest)) (value.Ref r ∷ ts)))
+    kept-if p Any HasCalls (keeping p) (blocks t (slice_get f.objects r)) (goes_on (with_temps (with_rest f (Enter n b f.call.rest)) (value.Ref r ∷ ts)))
     (take_monitor t (with_temps f ts) n b r (slice_get f.objects r)) refl (take-has t (with_temps f ts) n b r (slice_get f.objects r))
 
 class-has : (p : Program) (t : ℕ) (f : Frame) (n : Note) (c : ℕ) (b : Code) → HasCalls (enter_class t f n c b)
 class-has p t f n c b =
-    kept-if p Any HasCalls (keeping p) (blocks t (slice_get f.objects c)) (goes (with_rest f (EnterClass n c b f.call.rest)))
+    kept-if p Any HasCalls (keeping p) (blocks t (slice_get f.objects c)) (goes_on (with_rest f (EnterClass n c b f.call.rest)))
     (take_monitor t f n b c (slice_get f.objects c)) refl (take-has t f n b c (slice_get f.objects c))
 
 -- a thread that has calls isn't over
@@ -136,22 +136,22 @@ never : (m : Mode) (k : Code) (cs : List Call) → leaves_last m k [] ≡ false 
 never m k [] h = h
 never m k (c ∷ cs) h = refl
 
-left-over : (os : List Obj) (v : Option Value) (cs : List Call) → is_over (left os v cs).mode ≡ leaves_last mode.Running Done cs
+left-over : (os : List Obj) (v : Option Value) (cs : List Call) → is_over (resumed os v cs).mode ≡ leaves_last mode.Running Done cs
 left-over os v [] = refl
 left-over os v (c ∷ cs) = refl
 
 over-next : (p : Program) (T : Types) (t : ℕ) (f : Frame) (k : Code)
-    → CallsFit p T (next p t f k).objects (next p t f k).mode (next p t f k).calls → is_over (next p t f k).mode ≡ leaves_last mode.Running k f.below
+    → CallsFit p T (running_step p t f k).objects (running_step p t f k).mode (running_step p t f k).calls → is_over (running_step p t f k).mode ≡ leaves_last mode.Running k f.below
 over-next p T t f Done g = left-over f.objects (given f.call.gives None) f.below
 over-next p T t f (Do n i k) g =
-    not-over p T _ _ (next p t f (Do n i k)).calls (kept-plain p Any HasCalls (keeping p) (with_rest f k) i tt) g ∙ sym (never mode.Running (Do n i k) f.below refl)
+    not-over p T _ _ (running_step p t f (Do n i k)).calls (kept-plain p Any HasCalls (keeping p) (with_rest f k) i tt) g ∙ sym (never mode.Running (Do n i k) f.below refl)
 over-next p T t f (If n a b k) g =
-    not-over p T _ _ (next p t f (If n a b k)).calls (branch-has (with_rest f k) a b f.call.temps) g ∙ sym (never mode.Running (If n a b k) f.below refl)
+    not-over p T _ _ (running_step p t f (If n a b k)).calls (branch-has (with_rest f k) a b f.call.temps) g ∙ sym (never mode.Running (If n a b k) f.below refl)
 over-next p T t f (While n c b k) g = sym (never mode.Running (While n c b k) f.below refl)
 over-next p T t f (Enter n b k) g =
-    not-over p T _ _ (next p t f (Enter n b k)).calls (enter-has p t (with_rest f k) n b f.call.temps) g ∙ sym (never mode.Running (Enter n b k) f.below refl)
+    not-over p T _ _ (running_step p t f (Enter n b k)).calls (enter-has p t (with_rest f k) n b f.call.temps) g ∙ sym (never mode.Running (Enter n b k) f.below refl)
 over-next p T t f (EnterClass n c b k) g =
-    not-over p T _ _ (next p t f (EnterClass n c b k)).calls (class-has p t (with_rest f k) n c b) g ∙ sym (never mode.Running (EnterClass n c b k) f.below refl)
+    not-over p T _ _ (running_step p t f (EnterClass n c b k)).calls (class-has p t (with_rest f k) n c b) g ∙ sym (never mode.Running (EnterClass n c b k) f.below refl)
 over-next p T t f (Exit n r k) g = sym (never mode.Running (Exit n r k) f.below refl)
 
 abbrev is_nothing : Option (ℕ × Code) → Bool
@@ -168,26 +168,26 @@ clear-exit (EnterClass n c b k) = clear-exit k
 clear-exit (Exit n r k) = refl
 
 over-leave : (f : Frame) (v : Option Value) (o : Option (ℕ × Code)) (k : Code) → is_clear k ≡ is_nothing o
-    → is_over (leave f v o).mode ≡ leaves_last (mode.Leaving v) k f.below
+    → is_over (leaving_step f v o).mode ≡ leaves_last (mode.Leaving v) k f.below
 over-leave f v None k e = left-clear f.objects (given f.call.gives v) f.below
   where
-    left-clear : (os : List Obj) (w : Option Value) (cs : List Call) → is_over (left os w cs).mode ≡ leaves_last (mode.Leaving v) k cs
+    left-clear : (os : List Obj) (w : Option Value) (cs : List Call) → is_over (resumed os w cs).mode ≡ leaves_last (mode.Leaving v) k cs
     left-clear os w [] = sym e
     left-clear os w (c ∷ cs) = refl
 over-leave f v (Some (r, l)) k e = sym (never (mode.Leaving v) k f.below e)
 
 over-unwind : (f : Frame) (o : Option (ℕ × Code)) (k : Code) → is_clear k ≡ is_nothing o
-    → is_over (unwind f o).mode ≡ leaves_last mode.Ending k f.below
+    → is_over (ending_step f o).mode ≡ leaves_last mode.Ending k f.below
 over-unwind f None k e = dropped-clear f.objects f.below
   where
-    dropped-clear : (os : List Obj) (cs : List Call) → is_over (dropped os cs).mode ≡ leaves_last mode.Ending k cs
+    dropped-clear : (os : List Obj) (cs : List Call) → is_over (caller_ended os cs).mode ≡ leaves_last mode.Ending k cs
     dropped-clear os [] = sym e
     dropped-clear os (c ∷ cs) = refl
 over-unwind f (Some (r, l)) k e = sym (never mode.Ending k f.below e)
 
 over-move : (p : Program) (T : Types) (t : ℕ) (f : Frame) (m : Mode) → CallsFit p T f.objects m (f.call ∷ f.below)
-    → CallsFit p T (move p t f m).objects (move p t f m).mode (move p t f m).calls
-    → is_over (move p t f m).mode ≡ leaves_last m f.call.rest f.below
+    → CallsFit p T (call_step p t f m).objects (call_step p t f m).mode (call_step p t f m).calls
+    → is_over (call_step p t f m).mode ≡ leaves_last m f.call.rest f.below
 over-move p T t f mode.Running h g = over-next p T t f f.call.rest g
 over-move p T t f (mode.Leaving v) h g = over-leave f v (next_exit f.call.rest) f.call.rest (clear-exit f.call.rest)
 over-move p T t f mode.Ending h g = over-unwind f (next_exit f.call.rest) f.call.rest (clear-exit f.call.rest)

@@ -1,20 +1,27 @@
 -- Units that no types make well typed.
-use Rattle.std.proofs.Common.{◌≡◌, ◌≤◌, ℕ, ◌==◌, ⊎_elim, true, false, List, [], ◌∷◌, Option, Some, None, length, slice_get, refl, sym, subst, arith}
+use Rattle.std.proofs.Common.{◌≡◌, ◌≤◌, ℕ, zero, suc, ◌==◌, ⊎_elim, Bool, true, false, List, [], ◌∷◌, Option, Some, None, length, slice_get, refl, sym, ap, ◌∙◌, subst, arith}
 use Rattle.std.proofs.lemmas.Bool.{ltb-true}
 use Rattle.std.proofs.lemmas.Bool.Decides.{eqb_tells}
 use Rattle.core_model.specs.Code.{Code, Done, Do}
+use Rattle.core_model.specs.Units.{unit_number}
+use Rattle.core_model.specs.declared.program.TheConstants.{NEW}
+use Rattle.core_model.specs.declared.instr.Known.{Known}
+use Rattle.core_model.specs.declared.instr.Known.TheVariants as known
 use Rattle.core_model.specs.declared.instr.Note.{Note}
 use Rattle.core_model.specs.declared.instr.Plain.TheVariants as plain
 use Rattle.core_model.specs.declared.program.Program.{Program}
+use Rattle.core_model.specs.declared.program.ClassInfo.{ClassInfo}
+use Rattle.core_model.specs.declared.program.UnitName.{UnitName}
 use Rattle.core_model.specs.declared.program.UnitCode.{UnitCode}
 use Rattle.core_model.specs.declared.value.Value.{Value}
 use Rattle.core_model.specs.declared.value.Value.TheVariants as value
 use Rattle.core_types.specs.Types.{Ty, IntType, NullType, Types, of_unit, args_of, locals_of}
 use Rattle.core_types.specs.Belonging.{is_int, Suits}
-use Rattle.core_types.specs.Uses.{popped, returned}
+use Rattle.core_types.specs.Uses.{popped, lists_name, made_bare, constructed, of_make, of_call, returned}
 use Rattle.core_types.specs.Need.{need, need_of, AllSuit, UseFits, Fits}
 use Rattle.core_types.specs.Paths.{reads}
-use Rattle.core_types.specs.Programs.{Returns, UnitFits}
+use Rattle.core_types.specs.Programs.{unit_class, MemberFits, Returns, UnitFits, ProgramFits}
+use Rattle.core_laws.proofs.Lists.{each-get}
 use Rattle.core_types.proofs.Codes.{or-left}
 
 fits-as : (p : Program) (T : Types) (u : ℕ) (code : UnitCode) (k : Code) → UnitFits p T u code → code.code ≡ k → Fits p T (of_unit T u) k []
@@ -71,3 +78,46 @@ no-result T (Some t) l e h = let no : ⊥ = cc in no
 pub no-given : (p : Program) (T : Types) (u : ℕ) (code : UnitCode) (n : Note) (k : Code) → UnitFits p T u code
     → (of_unit T u).result ≡ None → code.code ≡ Do n plain.ReturnValue k → ⊥
 no-given p T u code n k h r e = no-result T (of_unit T u).result (need p T (of_unit T u) k []) r (fits-as p T u code _ h e).0
+
+-- ---- makers and members
+
+bare-is : (T : Types) (c n : ℕ) (listed : Bool) (l : List Ty) → UseFits T (made_bare c n listed) l → (n ≡ 0) × (listed ≡ false)
+bare-is T c zero true l s = absurd s
+bare-is T c zero false l s = (refl, refl)
+bare-is T c (suc n) listed l s = absurd s
+
+constructed-is : (T : Types) (c n : ℕ) (listed : Bool) (o : Option ℕ) (l : List Ty) → o ≡ None → UseFits T (constructed T c n listed o) l
+    → (n ≡ 0) × (listed ≡ false)
+constructed-is T c n listed None l e s = bare-is T c n listed l s
+constructed-is T c n listed (Some u) l e s = absurd (let no : ⊥ = cc in no)
+
+maker-is : (p : Program) (T : Types) (c n : ℕ) (o : Option ClassInfo) (info : ClassInfo) (l : List Ty) → o ≡ Some info → unit_number p c NEW n ≡ None
+    → UseFits T (of_make p T c n o) l → (n ≡ 0) × (lists_name NEW info.units ≡ false)
+maker-is p T c n None info l e f s = absurd s
+maker-is p T c n (Some i) info l e f s =
+    let is : i ≡ info = cc in
+    subst (λ (x : ClassInfo). (n ≡ 0) × (lists_name NEW x.units ≡ false)) is (constructed-is T c n (lists_name NEW i.units) (unit_number p c NEW n) l f s)
+
+pub no-arguments : (p : Program) (T : Types) (u : ℕ) (code : UnitCode) (n : Note) (c a : ℕ) (info : ClassInfo) (k : Code) → UnitFits p T u code
+    → slice_get p.classes c ≡ Some info → unit_number p c NEW a ≡ None → code.code ≡ Do n (plain.Make c a) k
+    → (a ≡ 0) × (lists_name NEW info.units ≡ false)
+no-arguments p T u code n c a info k h there none e =
+    maker-is p T c a (slice_get p.classes c) info (need p T (of_unit T u) k []) there none (fits-as p T u code _ h e).0
+
+names-none : (p : Program) (T : Types) (k : Known) (a : ℕ) (l : List Ty) → UseFits T (of_call p T k NEW a) l → ⊥
+names-none p T known.Nothing a l s = s
+names-none p T (known.Class c) a l s = s
+names-none p T (known.Monitor m) a l s = s
+
+pub no-constructor-called : (p : Program) (T : Types) (u : ℕ) (code : UnitCode) (n : Note) (a : ℕ) (k : Code) → UnitFits p T u code
+    → code.code ≡ Do n (plain.Call NEW a) k → ⊥
+no-constructor-called p T u code n a k h e = names-none p T n.known a (need p T (of_unit T u) k []) (fits-as p T u code _ h e).0
+
+some-is : {A : Type 0} {x y : A} → Some x ≡ Some y → x ≡ y
+some-is e = cc
+
+pub unit-of-its-class : (p : Program) (T : Types) (c i : ℕ) (info : ClassInfo) (m : UnitName) (code : UnitCode) → ProgramFits p T
+    → slice_get p.classes c ≡ Some info → slice_get info.units i ≡ Some m → slice_get p.units m.unit ≡ Some code → code.class ≡ c
+unit-of-its-class p T c i info m code h there listed at =
+    let member : MemberFits p T c m = each-get (MemberFits p T c) info.units i m listed (h.members c info there) in
+    some-is (sym (ap unit_class at) ∙ member.class)

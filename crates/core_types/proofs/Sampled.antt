@@ -5,6 +5,7 @@ use Rattle.std.specs.Option.{option_map}
 use Rattle.core_model.specs.declared.program.UnitName.{UnitName}
 use Rattle.core_model.specs.Objects.{static_initials, own_initials}
 use Rattle.core_model.specs.Units.{unit_number}
+use Rattle.core_model.specs.declared.program.TheConstants.{MAIN, RUN}
 use Rattle.core_model.specs.declared.program.ClassInfo.{ClassInfo}
 use Rattle.core_model.specs.declared.program.UnitCode.{UnitCode}
 use Rattle.core_model.specs.declared.object.Obj.{Obj}
@@ -204,18 +205,18 @@ own-fit (suc (suc c)) info e = absurd (let no : ⊥ = cc in no)
 members-fit : (c : ℕ) (info : ClassInfo) → slice_get sample.classes c ≡ Some info → Each (MemberFits sample T c) info.units
 members-fit zero info e =
     subst (λ (i : ClassInfo). Each (MemberFits sample T 0) i.units) (some-is e) (
-      record { named = refl; there = refl; count = refl; this = (refl, refl) },
+      record { named = refl; there = refl; class = refl; count = refl; this = (refl, refl) },
       (
-        record { named = refl; there = refl; count = refl; this = (refl, refl) },
+        record { named = refl; there = refl; class = refl; count = refl; this = (refl, refl) },
         (
-          record { named = refl; there = refl; count = refl; this = (refl, refl) },
-          (record { named = refl; there = refl; count = refl; this = tt }, tt),
+          record { named = refl; there = refl; class = refl; count = refl; this = (refl, refl) },
+          (record { named = refl; there = refl; class = refl; count = refl; this = tt }, tt),
         ),
       ),
     )
 members-fit (suc zero) info e =
     subst (λ (i : ClassInfo). Each (MemberFits sample T 1) i.units) (some-is e)
-    (record { named = refl; there = refl; count = refl; this = (refl, refl) }, tt)
+    (record { named = refl; there = refl; class = refl; count = refl; this = (refl, refl) }, tt)
 members-fit (suc (suc c)) info e = absurd (let no : ⊥ = cc in no)
 
 equal-is : (a b : ℕ) → (a == b) || false ≡ true → a ≡ b
@@ -246,17 +247,18 @@ implements-fit zero d h = subst (Implements sample T 0) (equal-is 1 d h) counter
 implements-fit (suc zero) d h = absurd (let no : ⊥ = cc in no)
 implements-fit (suc (suc c)) d h = absurd (let no : ⊥ = cc in no)
 
-runs-fit : (c : ℕ) → is_runnable T c ≡ true → RunFits T (unit_number sample c 2 0)
+runs-fit : (c : ℕ) → is_runnable T c ≡ true → RunFits T (unit_number sample c RUN 0)
 runs-fit zero h = (refl, refl)
 runs-fit (suc zero) h = absurd (let no : ⊥ = cc in no)
 runs-fit (suc (suc c)) h = absurd (let no : ⊥ = cc in no)
 
-mains-fit : (c : ℕ) → has sample.mains c ≡ true → MainFits T (unit_number sample c 1 1)
-mains-fit c h = subst (λ d. MainFits T (unit_number sample d 1 1)) (equal-is 0 c h) (refl, (refl, tt))
+mains-fit : (c : ℕ) → has sample.mains c ≡ true → MainFits T (unit_number sample c MAIN 1)
+mains-fit c h = subst (λ d. MainFits T (unit_number sample d MAIN 1)) (equal-is 0 c h) (refl, (refl, tt))
 
 pub sample-fits : ProgramFits sample T
 sample-fits = record {
   long = refl;
+  names = (refl, refl, refl);
   statics = statics-fit;
   own = own-fit;
   members = members-fit;

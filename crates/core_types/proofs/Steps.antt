@@ -2,11 +2,11 @@
 use Rattle.std.proofs.Common.{◌≡◌, ℕ, ◌==◌, ⊎_elim, Bool, true, false, if◌then◌else◌, List, [], ◌∷◌, Option, Some, None, slice_get, is_some, refl, sym, ◌∙◌, subst}
 use Rattle.std.proofs.lemmas.Bool.Decides.{eqb_tells}
 use Rattle.core_model.specs.Code.{Code, Done, Do, If, While, Enter, EnterClass, Exit, ◌⧺◌}
-use Rattle.core_model.specs.Frames.{with_objects, with_temps, with_rest, goes}
+use Rattle.core_model.specs.Frames.{with_objects, with_temps, with_rest, goes_on}
 use Rattle.core_model.specs.Straight.{return_value_from, branch_from, turn}
 use Rattle.core_model.specs.Monitors.{take_monitor, enter_from, enter_class}
 use Rattle.core_model.specs.Objects.{blocks, changed, entered, exited}
-use Rattle.core_model.specs.Step.{do_plain, given, left, dropped, next, next_exit, leave, unwind, move, moved}
+use Rattle.core_model.specs.Step.{do_plain, given, resumed, caller_ended, running_step, next_exit, leaving_step, ending_step, call_step, thread_step}
 use Rattle.core_model.specs.declared.instr.Note.{Note}
 use Rattle.core_model.specs.declared.instr.Plain.{Plain}
 use Rattle.core_model.specs.declared.instr.Plain.TheVariants as plain
@@ -142,7 +142,7 @@ module _ (p : Program) (T : Types) (program : ProgramFits p T) where
       → ((i : ℕ) → reads i l false ≡ true → reads i k false ≡ true)
       → (ends (true_on_top ts) l true ≡ true → ends (true_on_top f.call.temps) k true ≡ true)
       → AllBelong T f.objects ts (need p T (of_unit T f.call.unit) l [])
-      → Kept p T false (goes (with_temps (with_rest f l) ts))
+      → Kept p T false (goes_on (with_temps (with_rest f l) ts))
   goes-with f k l ts g fits r e h = record {
     fields = g.fields;
     calls = ((going-on p T f.objects (record f.call { rest = k }) (true_on_top f.call.temps) (true_on_top ts) l ts fits r e g.going, h), g.below);
@@ -241,7 +241,7 @@ module _ (p : Program) (T : Types) (program : ProgramFits p T) where
       h = subst (λ l. AllBelong T f.objects l (need p T (of_unit T f.call.unit) (Enter n b k) [])) e g.filled
 
       chosen : (x : Bool) → Kept p T false
-          (if x then goes (with_temps (with_rest f (Enter n b k)) (value.Ref r ∷ ts)) else take_monitor t (with_temps (with_rest f k) ts) n b r (slice_get f.objects r))
+          (if x then goes_on (with_temps (with_rest f (Enter n b k)) (value.Ref r ∷ ts)) else take_monitor t (with_temps (with_rest f k) ts) n b r (slice_get f.objects r))
       chosen true = goes-with f (Enter n b k) (Enter n b k) (value.Ref r ∷ ts) g g.going.fits (λ i x. x)
           (λ x. subst (λ l. ends (true_on_top l) (Enter n b k) true ≡ true) (sym e) x) h
       chosen false = entered-found t f n b k (Enter n b k) r ts (slice_get f.objects r) (there f.objects r (is-there f.objects r is_object h.0)) g
@@ -254,7 +254,7 @@ module _ (p : Program) (T : Types) (program : ProgramFits p T) where
       there os q o h = rw h refl
 
       chosen : (x : Bool) → Kept p T false
-          (if x then goes (with_rest f (EnterClass n c b k)) else take_monitor t (with_rest f k) n b c (slice_get f.objects c))
+          (if x then goes_on (with_rest f (EnterClass n c b k)) else take_monitor t (with_rest f k) n b c (slice_get f.objects c))
       chosen true = goes-with f (EnterClass n c b k) (EnterClass n c b k) f.call.temps g g.going.fits (λ i x. x) (λ x. x) g.filled
       chosen false =
           let at = holder-there p f.objects c g.holders g.going.fits.0 in
@@ -273,7 +273,7 @@ module _ (p : Program) (T : Types) (program : ProgramFits p T) where
   pushed-object os v ts (n ∷ l) h = h
 
   left-found : (os : List Obj) (w : Gives) (r : Option Ty) (v : Option Value) (cs : List Call) → FieldsFit T os → ResultFits T os r v
-      → BeneathFit p T os w r cs → Each (IsThere p T os) cs → Kept p T false (left os (given w v) cs)
+      → BeneathFit p T os w r cs → Each (IsThere p T os) cs → Kept p T false (resumed os (given w v) cs)
   left-found os w r v [] fields h b q = record { fields = fields; calls = tt; there = tt; started = tt; ending = refl }
   left-found os Own None None (c ∷ cs) fields h b q = record { fields = fields; calls = ((b.0, b.1), b.2); there = q; started = tt; ending = refl }
   left-found os Own None (Some v) (c ∷ cs) fields h b q = absurd h
@@ -298,7 +298,7 @@ module _ (p : Program) (T : Types) (program : ProgramFits p T) where
   done-result f None known h = tt
   done-result f (Some t) known h = absurd (let no : ⊥ = cc in no)
 
-  next-found : (t : ℕ) (f : Frame) (k : Code) → Found f k → Kept p T (faults k f.call.temps) (next p t f k)
+  next-found : (t : ℕ) (f : Frame) (k : Code) → Found f k → Kept p T (faults k f.call.temps) (running_step p t f k)
   next-found t f Done g =
       left-found f.objects f.call.gives (result_in T f.call) None f.below g.fields (done-result f (result_in T f.call) (true_on_top f.call.temps) g.going.returns) g.below g.there.1
   next-found t f (Do n i k) g = do-found f n i k g
@@ -316,7 +316,7 @@ module _ (p : Program) (T : Types) (program : ProgramFits p T) where
 
   leave-found : (f : Frame) (v : Option Value) (o : Option (ℕ × Code)) → FieldsFit T f.objects → ResultFits T f.objects (result_in T f.call) v
       → BeneathFit p T f.objects f.call.gives (result_in T f.call) f.below → Each (IsThere p T f.objects) (f.call ∷ f.below)
-      → Kept p T false (leave f v o)
+      → Kept p T false (leaving_step f v o)
   leave-found f v None fields h b there = left-found f.objects f.call.gives (result_in T f.call) v f.below fields h b there.1
   leave-found f v (Some (r, k)) fields h b there =
       let w : Grows f.objects (changed f.objects r exited) = grows-changed f.objects r exited (λ x. refl) in
@@ -333,12 +333,12 @@ module _ (p : Program) (T : Types) (program : ProgramFits p T) where
       }
 
   dropped-found : (os : List Obj) (cs : List Call) → FieldsFit T os → Each (TempsThere T os) cs → Each (IsThere p T os) cs
-      → Kept p T (is_ending (dropped os cs).mode) (dropped os cs)
+      → Kept p T (is_ending (caller_ended os cs).mode) (caller_ended os cs)
   dropped-found os [] fields ts there = record { fields = fields; calls = tt; there = tt; started = tt; ending = refl }
   dropped-found os (c ∷ cs) fields ts there = record { fields = fields; calls = (refl, ts.1); there = there; started = tt; ending = refl }
 
   unwind-found : (f : Frame) (o : Option (ℕ × Code)) → FieldsFit T f.objects → Each (TempsThere T f.objects) f.below
-      → Each (IsThere p T f.objects) (f.call ∷ f.below) → Kept p T (is_ending (unwind f o).mode) (unwind f o)
+      → Each (IsThere p T f.objects) (f.call ∷ f.below) → Kept p T (is_ending (ending_step f o).mode) (ending_step f o)
   unwind-found f None fields ts there = dropped-found f.objects f.below fields ts there.1
   unwind-found f (Some (r, k)) fields ts there =
       let w : Grows f.objects (changed f.objects r exited) = grows-changed f.objects r exited (λ x. refl) in
@@ -351,23 +351,23 @@ module _ (p : Program) (T : Types) (program : ProgramFits p T) where
       }
 
   pub running-found : (t : ℕ) (f : Frame) → FieldsFit T f.objects → Holders p f.objects → Each (IsThere p T f.objects) (f.call ∷ f.below)
-      → CallsFit p T f.objects mode.Running (f.call ∷ f.below) → Kept p T (faults f.call.rest f.call.temps) (next p t f f.call.rest)
+      → CallsFit p T f.objects mode.Running (f.call ∷ f.below) → Kept p T (faults f.call.rest f.call.temps) (running_step p t f f.call.rest)
   running-found t f fields holders there h =
       next-found t f f.call.rest (record { fields = fields; holders = holders; going = h.0.0; filled = h.0.1; below = h.1; there = there })
 
   pub leaving-found : (f : Frame) (v : Option Value) → FieldsFit T f.objects → Each (IsThere p T f.objects) (f.call ∷ f.below)
-      → CallsFit p T f.objects (mode.Leaving v) (f.call ∷ f.below) → Kept p T false (leave f v (next_exit f.call.rest))
+      → CallsFit p T f.objects (mode.Leaving v) (f.call ∷ f.below) → Kept p T false (leaving_step f v (next_exit f.call.rest))
   leaving-found f v fields there h = leave-found f v (next_exit f.call.rest) fields h.0 h.2 there
 
   any-ending : (x : Bool) (a : After) → Kept p T x a → Kept p T (is_ending a.mode) a
   any-ending x a k = record { fields = k.fields; calls = k.calls; there = k.there; started = k.started; ending = refl }
 
   move-found : (t : ℕ) (f : Frame) (m : Mode) → FieldsFit T f.objects → Holders p f.objects → Each (IsThere p T f.objects) (f.call ∷ f.below)
-      → CallsFit p T f.objects m (f.call ∷ f.below) → Kept p T (is_ending (move p t f m).mode) (move p t f m)
+      → CallsFit p T f.objects m (f.call ∷ f.below) → Kept p T (is_ending (call_step p t f m).mode) (call_step p t f m)
   move-found t f mode.Running fields holders there h =
-      any-ending (faults f.call.rest f.call.temps) (next p t f f.call.rest) (running-found t f fields holders there h)
+      any-ending (faults f.call.rest f.call.temps) (running_step p t f f.call.rest) (running-found t f fields holders there h)
   move-found t f (mode.Leaving v) fields holders there h =
-      any-ending false (leave f v (next_exit f.call.rest)) (leaving-found f v fields there h)
+      any-ending false (leaving_step f v (next_exit f.call.rest)) (leaving-found f v fields there h)
   move-found t f mode.Ending fields holders there h = unwind-found f (next_exit f.call.rest) fields h.1 there
   move-found t f mode.Over fields holders there h = absurd h
 
@@ -379,7 +379,7 @@ module _ (p : Program) (T : Types) (program : ProgramFits p T) where
   over-found os mode.Over fields h = record { fields = fields; calls = tt; there = tt; started = tt; ending = refl }
 
   pub moved-kept : (t : ℕ) (os : List Obj) (h : Thread) (cs : List Call) → FieldsFit T os → Holders p os → Each (IsThere p T os) cs
-      → CallsFit p T os h.mode cs → Kept p T (is_ending (moved p t os h cs).mode) (moved p t os h cs)
+      → CallsFit p T os h.mode cs → Kept p T (is_ending (thread_step p t os h cs).mode) (thread_step p t os h cs)
   moved-kept t os h [] fields holders there calls = over-found os h.mode fields calls
   moved-kept t os h (c ∷ cs) fields holders there calls =
       move-found t (record { objects = os; call = c; below = cs }) h.mode fields holders there calls

@@ -5,7 +5,7 @@ use Rattle.std.specs.Int.{w32, int_wrapping_div}
 use Rattle.std.proofs.lemmas.Bool.{lt-ltb}
 use Rattle.std.proofs.lemmas.Bool.Decides.{eqb_tells}
 use Rattle.core_model.specs.Code.{Code, Do}
-use Rattle.core_model.specs.Frames.{with_objects, with_temps, with_rest, goes, ends, push, push_if}
+use Rattle.core_model.specs.Frames.{with_objects, with_temps, with_rest, goes_on, ends, push, push_if}
 use Rattle.core_model.specs.Straight.{get, set_from, with_local, drop_from, read, field_from, keep_from, write, put_from, put_static_from, operate_from, neg_from, not_from}
 use Rattle.core_model.specs.Calling.{make_plain}
 use Rattle.core_model.specs.Objects.{field_at, with_field, changed, fresh_object}
@@ -86,7 +86,7 @@ module _ (p : Program) (T : Types) (program : ProgramFits p T) where
     there = calls-there-grow p T f.objects ns (f.call ∷ f.below) w g.there;
   }
 
-  pub go : (f : Frame) (ts : List Value) → Good p T f → AllBelong T f.objects ts (need_in p T f.call) → Kept p T false (goes (with_temps f ts))
+  pub go : (f : Frame) (ts : List Value) → Good p T f → AllBelong T f.objects ts (need_in p T f.call) → Kept p T false (goes_on (with_temps f ts))
   go f ts g h = record {
     fields = g.fields;
     calls = ((going-known p T f.objects f.call (true_on_top ts) ts g.going, h), g.below);
@@ -212,7 +212,7 @@ module _ (p : Program) (T : Types) (program : ProgramFits p T) where
   set-in f n i k None ts known e fields below there g s h = absurd s
   set-in f n i k (Some t) [] known e fields below there g s h = absurd h
   set-in f n i k (Some t) (v ∷ ts) known e fields below there g s h =
-      if-kept (nat_lt i (length f.call.locals)) (goes (with_local (with_temps (with_rest f k) ts) i v)) (ends (with_rest f k))
+      if-kept (nat_lt i (length f.call.locals)) (goes_on (with_local (with_temps (with_rest f k) ts) i v)) (ends (with_rest f k))
       (lt-get (locals_of (of_unit T f.call.unit)) f.call.locals i t e g.long)
       (record {
         fields = fields;
@@ -331,7 +331,7 @@ module _ (p : Program) (T : Types) (program : ProgramFits p T) where
   write-kept f r i v t a b g h =
       let ns : List Obj = changed f.objects r (λ o. with_field o i v) in
       let w : Grows f.objects ns = grows-changed f.objects r (λ o. with_field o i v) (λ x. refl) in
-      if-kept (is_some (field_at f.objects r i)) (goes (with_objects f ns)) (ends f)
+      if-kept (is_some (field_at f.objects r i)) (goes_on (with_objects f ns)) (ends f)
       (found-some T f.objects (field_at f.objects r i) t (read-found T f.objects r i t g.fields a))
       (go (with_objects f ns) f.call.temps (objects f ns w (fields-written T f.objects r i v t a b g.fields) g)
       (all-grow T f.objects ns f.call.temps (need_in p T f.call) w h))

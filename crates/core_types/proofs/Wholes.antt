@@ -4,7 +4,8 @@ use Rattle.std.specs.Option.{option_to_list}
 use Rattle.core_model.specs.Objects.{fresh_object, static_initials}
 use Rattle.core_model.specs.Units.{unit_number, call_for, call_of}
 use Rattle.core_model.specs.Begin.{begin, begun_thread, begun_objects, main_thread, holders_from, static_fresh, all_fresh}
-use Rattle.core_model.specs.Step.{moved, step_of, step, run}
+use Rattle.core_model.specs.Step.{thread_step, step_of, step, run}
+use Rattle.core_model.specs.declared.program.TheConstants.{MAIN}
 use Rattle.core_model.specs.declared.program.Program.{Program}
 use Rattle.core_model.specs.declared.program.ClassInfo.{ClassInfo}
 use Rattle.core_model.specs.declared.object.Obj.{Obj}
@@ -18,9 +19,9 @@ use Rattle.core_laws.specs.Places.{Each}
 use Rattle.core_laws.specs.Marks.{Spined}
 use Rattle.core_laws.specs.Shape.{kind_of, HasItsFields}
 use Rattle.core_laws.proofs.Lists.{each-get, each-set, each-append}
-use Rattle.core_laws.proofs.Carried.{kept-step_of, begin-each}
+use Rattle.core_laws.proofs.Carried.{step-has, begin-has}
 use Rattle.core_laws.proofs.Spines.{spined-closed}
-use Rattle.core_laws.proofs.Marked.{spined-units, counted-step_of, counted-begin}
+use Rattle.core_laws.proofs.Marked.{spined-units, counted-step, counted-begin}
 use Rattle.core_laws.proofs.Flows.{there-step}
 use Rattle.core_laws.proofs.Shaping.{kind-step, fields-kept, shaped-run}
 use Rattle.core_types.specs.Types.{Types, of_unit, has, args_of}
@@ -65,7 +66,7 @@ module _ (p : Program) (T : Types) where
       → Stepped (step_of p c t o)
   stepped-of c t None e w g = record { fields = w.fields; threads = w.threads; there = w.there }
   stepped-of c t (Some now) e w g =
-      let a : After = moved p t c.objects now now.calls in
+      let a : After = thread_step p t c.objects now now.calls in
       let k = moved-kept p T w.program t c.objects now now.calls w.fields w.shaped.holders (each-get (There c.objects) c.threads t now e w.there) (each-get (Fit c.objects) c.threads t now e w.threads) in
       record {
         fields = k.fields;
@@ -90,8 +91,8 @@ module _ (p : Program) (T : Types) where
         fields = s.fields;
         there = s.there;
         threads = s.threads;
-        spined = kept-step_of (λ _. Spined) (λ _. spined-closed) p (spined-units p w.program.unmarked) c t (slice_get c.threads t) refl w.spined;
-        counted = counted-step_of p w.program.unmarked c t (slice_get c.threads t) refl w.spined w.counted;
+        spined = step-has (λ _. Spined) (λ _. spined-closed) p (spined-units p w.program.unmarked) c t w.spined;
+        counted = counted-step p w.program.unmarked c t w.spined w.counted;
       }
 
   -- ---- the beginning
@@ -130,21 +131,21 @@ module _ (p : Program) (T : Types) where
       ∙ fresh-at (all_fresh cs) j less))
       (fresh-fit T ns (all_fresh cs))
 
-  main-found : (os : List Obj) (program : ProgramFits p T) (c : ℕ) (o : Option ℕ) → unit_number p c 1 1 ≡ o → MainFits T o
+  main-found : (os : List Obj) (program : ProgramFits p T) (c : ℕ) (o : Option ℕ) → unit_number p c MAIN 1 ≡ o → MainFits T o
       → Fit os (main_thread (call_of p o (value.Null ∷ []) Own))
   main-found os program c None e h = absurd h
   main-found os program c (Some u) e h =
-      let code = class-is (slice_get p.units u) (member-at p T program c 1 1 u e).there in
+      let code = class-is (slice_get p.units u) (member-at p T program c MAIN 1 u e).there in
       let none = this-none (of_unit T u).this h.0 in
       let args : AllBelong T os (value.Null ∷ []) (args_of (of_unit T u)) = rw none (all-grow T [] os (value.Null ∷ []) (of_unit T u).params (grows-none os) h.1) in
       subst (λ w. Fit os (main_thread (call_for u w (value.Null ∷ []) Own))) (sym code.1)
       (begun-fits p T program os u code.0 (value.Null ∷ []) Own code.1 args, tt)
 
-  main-there : (os : List Obj) (program : ProgramFits p T) (c : ℕ) (o : Option ℕ) → unit_number p c 1 1 ≡ o → MainFits T o
+  main-there : (os : List Obj) (program : ProgramFits p T) (c : ℕ) (o : Option ℕ) → unit_number p c MAIN 1 ≡ o → MainFits T o
       → There os (main_thread (call_of p o (value.Null ∷ []) Own))
   main-there os program c None e h = absurd h
   main-there os program c (Some u) e h =
-      let code = class-is (slice_get p.units u) (member-at p T program c 1 1 u e).there in
+      let code = class-is (slice_get p.units u) (member-at p T program c MAIN 1 u e).there in
       let none = this-none (of_unit T u).this h.0 in
       let args : AllBelong T os (value.Null ∷ []) (args_of (of_unit T u)) = rw none (all-grow T [] os (value.Null ∷ []) (of_unit T u).params (grows-none os) h.1) in
       subst (λ w. There os (main_thread (call_for u w (value.Null ∷ []) Own))) (sym code.1)
@@ -154,7 +155,7 @@ module _ (p : Program) (T : Types) where
       → Each (There os) (map (begun_thread p) mains)
   mains-there os program [] h = tt
   mains-there os program (c ∷ mains) h =
-      (main-there os program c (unit_number p c 1 1) refl (program.mains c h.0), mains-there os program mains h.1)
+      (main-there os program c (unit_number p c MAIN 1) refl (program.mains c h.0), mains-there os program mains h.1)
 
   holders-kinds : (c n : ℕ) (cs : List ClassInfo) → From c cs → KindsThere p (holders_from c n cs)
   holders-kinds c n [] h = kinds-none p
@@ -166,7 +167,7 @@ module _ (p : Program) (T : Types) where
       → Each (Fit os) (map (begun_thread p) mains)
   mains-found os program [] h = tt
   mains-found os program (c ∷ mains) h =
-      (main-found os program c (unit_number p c 1 1) refl (program.mains c h.0), mains-found os program mains h.1)
+      (main-found os program c (unit_number p c MAIN 1) refl (program.mains c h.0), mains-found os program mains h.1)
 
   pub begin-fits : ProgramFits p T → (mains : List ℕ) → Each (λ c. has p.mains c ≡ true) mains → ConfigFits p T (begin p mains)
   begin-fits program mains h = record {
@@ -178,7 +179,7 @@ module _ (p : Program) (T : Types) where
     fields = begun-fields program;
     there = mains-there (begun_objects p.classes) program mains h;
     threads = mains-found (begun_objects p.classes) program mains h;
-    spined = begin-each (λ _. Spined) (λ _. spined-closed) p (spined-units p program.unmarked) mains;
+    spined = begin-has (λ _. Spined) (λ _. spined-closed) p (spined-units p program.unmarked) mains;
     counted = counted-begin p program.unmarked mains;
   }
 

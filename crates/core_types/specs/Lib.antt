@@ -1,10 +1,13 @@
+pub mod Slots
 pub mod Types
 pub mod Belonging
 pub mod Uses
+pub mod Origins
 pub mod Need
 pub mod Paths
 pub mod Programs
 pub mod Configs
 pub mod Faults
 pub mod Sample
+pub mod Spared
 pub mod Reaching

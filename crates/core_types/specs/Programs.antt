@@ -1,9 +1,9 @@
 -- Well typed programs.
-use Rattle.std.specs.Prelude.{◌≡◌, ℕ, Bool, true, false, not, List, [], ◌∷◌, Option, Some, None, length, slice_get, is_some, nat_lt}
+use Rattle.std.specs.Prelude.{◌≡◌, ℕ, Bool, true, false, not, List, [], ◌∷◌, Option, Some, None, length, slice_get, is_some, nat_lt, codes}
 use Rattle.core_model.specs.Code.{Code}
 use Rattle.core_model.specs.Objects.{static_initials, own_initials}
 use Rattle.core_model.specs.Units.{unit_number}
-use Rattle.core_model.specs.declared.program.TheConstants.{MAIN, RUN}
+use Rattle.core_model.specs.declared.program.TheConstants.{NEW, MAIN, RUN}
 use Rattle.core_model.specs.declared.program.Program.{Program}
 use Rattle.core_model.specs.declared.program.ClassInfo.{ClassInfo}
 use Rattle.core_model.specs.declared.program.UnitName.{UnitName}
@@ -33,11 +33,16 @@ abbrev pub ThisFits : ℕ → List Ty → Type 0
 ThisFits c [] = Unit {0}
 ThisFits c (t ∷ ts) = (t ≡ ClassType c) × (ts ≡ [])
 
--- a member of class c: its name and its unit are there, it has as many parameters as its unit, and its `this`, if it has
+abbrev pub unit_class : Option UnitCode → Option ℕ
+unit_class None = None
+unit_class (Some code) = Some code.class
+
+-- a member of class c: its name is there, its unit is one of that class and has as many parameters, and its `this`, if it has
 -- one, is of that class
 pub record MemberFits (p : Program) (T : Types) (c : ℕ) (m : UnitName) : Type 0 where
   pub named : is_some (slice_get p.members m.name) ≡ true
   pub there : is_some (slice_get p.units m.unit) ≡ true
+  pub class : unit_class (slice_get p.units m.unit) ≡ Some c
   pub count : length (of_unit T m.unit).params ≡ m.params
   pub this : ThisFits c (of_unit T m.unit).this
 
@@ -76,9 +81,15 @@ pub record UnitFits (p : Program) (T : Types) (u : ℕ) (code : UnitCode) : Type
   pub set : (i : ℕ) → reads i code.code false ≡ true → nat_lt i (length (args_of (of_unit T u))) ≡ true
   pub returns : Returns (of_unit T u).result false code.code
 
+-- the first member names are `new`, `main` and `run`
+abbrev pub NamesFit : List (List ℕ) → Type 0
+NamesFit names =
+    (slice_get names NEW ≡ Some (codes "new")) × (slice_get names MAIN ≡ Some (codes "main")) × (slice_get names RUN ≡ Some (codes "run"))
+
 -- the program is well typed by these types
 pub record ProgramFits (p : Program) (T : Types) : Type 0 where
   pub long : length T.classes ≡ length p.classes
+  pub names : NamesFit p.members
   pub statics : (c : ℕ) (info : ClassInfo) → slice_get p.classes c ≡ Some info
       → InitialsFit T (static_initials info.fields) (of_class T c).statics
   pub own : (c : ℕ) (info : ClassInfo) → slice_get p.classes c ≡ Some info → InitialsFit T (own_initials info.fields) (of_class T c).own

@@ -3,7 +3,7 @@
 -- int get() { while (true) { if (x < 3) { this.x = x + 1; } else { return x; } } }
 -- synchronized void run() { synchronized (Counter.class) { x = 1; } }
 -- static void main(String[] args) { Counter c = new Counter(2); Source o = c; s = o.get(); new Thread(c).start(); } }`.
-use Rattle.std.specs.Prelude.{ℕ, pos, true, false, [], ◌∷◌, Some, None}
+use Rattle.std.specs.Prelude.{ℕ, pos, true, false, [], ◌∷◌, Some, None, codes}
 use Rattle.core_model.specs.Code.{Code, Done, Do, If, While, Enter, EnterClass}
 use Rattle.core_model.specs.declared.instr.Known.{Known}
 use Rattle.core_model.specs.declared.instr.Known.TheVariants as known
@@ -94,7 +94,7 @@ sample = record {
   classes = counter ∷ source ∷ [];
   units = unit_in 0 2 new_code ∷ unit_in 0 1 get_code ∷ unit_in 0 1 run_code ∷ main_unit ∷ unit_in 1 1 source_code ∷ [];
   mains = 0 ∷ [];
-  members = [] ∷ [] ∷ [] ∷ [] ∷ [];
+  members = codes "new" ∷ codes "main" ∷ codes "run" ∷ codes "get" ∷ [];
 }
 
 abbrev pub sample_types : Types

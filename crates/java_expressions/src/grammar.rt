@@ -1,7 +1,7 @@
 //! The productions of expressions, each a function that reads it from the tokens ahead. Those that hold
 //! expressions take the reader of these as a parameter, so that each is proved by itself.
 
-ghost use Rattle.std.specs.Prelude.{◌≡◌, ◌≤◌, max, IfOk, IfErr};
+ghost use Rattle.std.specs.Prelude.{◌≡◌, ◌≤◌, ◌+◌, max, IfOk, IfErr};
 ghost use Rattle.java_tree.specs.declared.kind.Kind.TheVariants as k;
 ghost use Rattle.java_phrases.specs.Parser.{sees, turns};
 ghost use Rattle.java_expressions.specs.Reading as spec;
@@ -10,10 +10,9 @@ ghost use Rattle.java_expressions.specs.Nests.{Nests};
 
 use crate::operators::{goes_on, level_of, next_operator, sign_of};
 use crate::tall::{Arguments, Listed, Tall};
-use desk_base::Span;
+use desk_base::{Boxed, Items, Span};
 use java_phrases::{SyntaxError, Tokens};
 use java_tree::{BinaryOp, Expr, Kind, Lexeme};
-use sqlite_items::{Boxed, Items};
 use std::alloc::Global;
 
 #[tactic(auto, unfolding(crate::specs::Reading::small))]
@@ -28,6 +27,13 @@ fn small(alloc: Global, tokens: &mut Tokens) -> Result<Tall, SyntaxError>
         expr: Expr::Int(number),
         height: 1,
     })
+}
+
+/// An expression that is one node.
+fn leaf(expr: Expr) -> Tall
+    ensures { result ≡ spec.tall expr 1 }
+{
+    Tall { expr, height: 1 }
 }
 
 /// The name of a class behind `new`.
@@ -46,6 +52,15 @@ fn greater(left: usize, right: usize) -> usize
     ensures { result ≡ max left right }
 {
     if left < right { right } else { left }
+}
+
+/// The height of a node over two parts of these heights.
+fn above(left: usize, right: usize) -> usize
+    requires left { left ≤ 255 }
+    requires right { right ≤ 255 }
+    ensures { result ≡ max left right + 1 }
+{
+    if left < right { right + 1 } else { left + 1 }
 }
 
 /// The list with one more at its end.
@@ -88,6 +103,18 @@ fn select_tree(alloc: Global, from: Tall, name: Lexeme) -> Result<Tall, SyntaxEr
     })
 }
 
+/// A call on an expression of this height.
+fn call_on(from: Boxed<Expr>, height: usize, name: Lexeme, arguments: Arguments) -> Tall
+    requires from { height ≤ 255 }
+    requires arguments { arguments.height ≤ 255 }
+    ensures { result ≡ spec.call_on_tree (spec.tall from height) name arguments }
+{
+    Tall {
+        expr: Expr::CallOn(from, name, arguments.items, arguments.closing),
+        height: above(height, arguments.height),
+    }
+}
+
 fn call_on_tree(
     alloc: Global,
     from: Tall,
@@ -99,12 +126,9 @@ fn call_on_tree(
     ensures made { IfOk result (λ made. made ≡ spec.call_on_tree from name arguments) }
     ensures memory { IfErr result (λ e. e ≡ SyntaxError.OutOfMemory) }
 {
-    let height = greater(from.height, arguments.height) + 1;
+    let height = from.height;
     let from = Boxed::new(alloc, from.expr)?;
-    Ok(Tall {
-        expr: Expr::CallOn(from, name, arguments.items, arguments.closing),
-        height,
-    })
+    Ok(call_on(from, height, name, arguments))
 }
 
 fn not_tree(alloc: Global, at: Span, operand: Tall) -> Result<Tall, SyntaxError>
@@ -141,7 +165,7 @@ fn binary_tree(
     ensures made { IfOk result (λ made. made ≡ spec.binary_tree left operator at right) }
     ensures memory { IfErr result (λ e. e ≡ SyntaxError.OutOfMemory) }
 {
-    let height = greater(left.height, right.height) + 1;
+    let height = above(left.height, right.height);
     let left = Boxed::new(alloc, left.expr)?;
     let right = Boxed::new(alloc, right.expr)?;
     Ok(Tall {
@@ -288,19 +312,21 @@ impl<F: Fn(Global, &mut Tokens, u8, u8) -> Result<Tall, SyntaxError>> Grammar<F>
         requires { Nests self.now.room (F.pre self.now.expr) (F.post self.now.expr) }
         ensures { Steps (spec.primary (spec.expr self.now.room)) tokens.old result tokens.new }
     {
-        let expr = match tokens.peek() {
-            Some(Kind::IntLiteral) => return small(self.alloc, tokens),
-            Some(Kind::Name) => return self.named(tokens),
-            Some(Kind::New) => return self.created(tokens),
-            Some(Kind::LParen) => return self.parenthesized(tokens),
-            Some(Kind::StrLiteral) => Expr::Str(tokens.word(self.alloc, Kind::StrLiteral)?),
-            Some(Kind::True) => Expr::True(tokens.sign(Kind::True)?),
-            Some(Kind::False) => Expr::False(tokens.sign(Kind::False)?),
-            Some(Kind::Null) => Expr::Null(tokens.sign(Kind::Null)?),
-            Some(Kind::This) => Expr::This(tokens.sign(Kind::This)?),
-            _ => return Err(SyntaxError::NotSpelled),
-        };
-        Ok(Tall { expr, height: 1 })
+        match tokens.peek() {
+            Some(Kind::IntLiteral) => small(self.alloc, tokens),
+            Some(Kind::Name) => self.named(tokens),
+            Some(Kind::New) => self.created(tokens),
+            Some(Kind::LParen) => self.parenthesized(tokens),
+            Some(Kind::StrLiteral) => Ok(leaf(Expr::Str(tokens.word(
+                self.alloc,
+                Kind::StrLiteral,
+            )?))),
+            Some(Kind::True) => Ok(leaf(Expr::True(tokens.sign(Kind::True)?))),
+            Some(Kind::False) => Ok(leaf(Expr::False(tokens.sign(Kind::False)?))),
+            Some(Kind::Null) => Ok(leaf(Expr::Null(tokens.sign(Kind::Null)?))),
+            Some(Kind::This) => Ok(leaf(Expr::This(tokens.sign(Kind::This)?))),
+            _ => Err(SyntaxError::NotSpelled),
+        }
     }
 
     /// A selection of the expression, or a call on it.

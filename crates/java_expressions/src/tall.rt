@@ -1,8 +1,7 @@
 //! Trees beside the number of nodes on their longest path.
 
-use desk_base::Span;
+use desk_base::{Items, Span};
 use java_tree::Expr;
-use sqlite_items::Items;
 
 /// An expression and its height: the number of nodes on its longest path.
 #[derive(Drop)]

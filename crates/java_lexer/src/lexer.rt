@@ -5,9 +5,8 @@ ghost use Rattle.java_lexer.specs.Answers.{IsPlaceOf, IsStuck, GivesTokens, Give
 
 use crate::error::LexError;
 use crate::front::{Front, front_of};
-use desk_base::{Bytes, OutOfMemory, Span};
+use desk_base::{Bytes, Items, OutOfMemory, Span};
 use java_tree::{Kind, Token};
-use sqlite_items::Items;
 use std::alloc::Global;
 use std::str;
 

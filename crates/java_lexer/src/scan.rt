@@ -14,6 +14,7 @@ pub fn byte(text: &[u8], at: usize) -> u8
     if at < text.len() { text[at] } else { 0 }
 }
 
+/// A space, tab, line feed, carriage return or form feed.
 pub fn is_blank(byte: u8) -> bool
     ensures { result ≡ chars.is_blank byte }
 {
@@ -26,6 +27,7 @@ fn is_line_end(byte: u8) -> bool
     byte == b'\n' || byte == b'\r'
 }
 
+/// An ASCII letter, a digit, `_` or `$`.
 pub fn is_name_part(byte: u8) -> bool
     ensures { result ≡ chars.is_name_part byte }
 {

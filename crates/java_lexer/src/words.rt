@@ -1,17 +1,20 @@
-//! The reserved words, by their first letter.
+//! The reserved words with their kinds, by their first letter.
 ghost use Rattle.std.specs.Prelude.{◌≡◌, map};
 ghost use Rattle.java_lexer.specs.Words as spec;
 
 use java_tree::Kind;
 
+/// Those that begin with `a`.
 pub const A_WORDS: [(&[u8], Kind); 2] = [(b"abstract", Kind::Abstract), (b"assert", Kind::Assert)];
 
+/// Those that begin with `b`.
 pub const B_WORDS: [(&[u8], Kind); 3] = [
     (b"boolean", Kind::BooleanType),
     (b"break", Kind::Break),
     (b"byte", Kind::Byte),
 ];
 
+/// Those that begin with `c`.
 pub const C_WORDS: [(&[u8], Kind); 6] = [
     (b"case", Kind::Case),
     (b"catch", Kind::Catch),
@@ -21,18 +24,21 @@ pub const C_WORDS: [(&[u8], Kind); 6] = [
     (b"continue", Kind::Continue),
 ];
 
+/// Those that begin with `d`.
 pub const D_WORDS: [(&[u8], Kind); 3] = [
     (b"default", Kind::Default),
     (b"do", Kind::Do),
     (b"double", Kind::Double),
 ];
 
+/// Those that begin with `e`.
 pub const E_WORDS: [(&[u8], Kind); 3] = [
     (b"else", Kind::Else),
     (b"enum", Kind::Enum),
     (b"extends", Kind::Extends),
 ];
 
+/// Those that begin with `f`.
 pub const F_WORDS: [(&[u8], Kind); 5] = [
     (b"false", Kind::False),
     (b"final", Kind::Final),
@@ -41,8 +47,10 @@ pub const F_WORDS: [(&[u8], Kind); 5] = [
     (b"for", Kind::For),
 ];
 
+/// Those that begin with `g`.
 pub const G_WORDS: [(&[u8], Kind); 1] = [(b"goto", Kind::Goto)];
 
+/// Those that begin with `i`.
 pub const I_WORDS: [(&[u8], Kind); 6] = [
     (b"if", Kind::If),
     (b"implements", Kind::Implements),
@@ -52,14 +60,17 @@ pub const I_WORDS: [(&[u8], Kind); 6] = [
     (b"interface", Kind::Interface),
 ];
 
+/// Those that begin with `l`.
 pub const L_WORDS: [(&[u8], Kind); 1] = [(b"long", Kind::Long)];
 
+/// Those that begin with `n`.
 pub const N_WORDS: [(&[u8], Kind); 3] = [
     (b"native", Kind::Native),
     (b"new", Kind::New),
     (b"null", Kind::Null),
 ];
 
+/// Those that begin with `p`.
 pub const P_WORDS: [(&[u8], Kind); 4] = [
     (b"package", Kind::Package),
     (b"private", Kind::Private),
@@ -67,8 +78,10 @@ pub const P_WORDS: [(&[u8], Kind); 4] = [
     (b"public", Kind::Public),
 ];
 
+/// Those that begin with `r`.
 pub const R_WORDS: [(&[u8], Kind); 1] = [(b"return", Kind::Return)];
 
+/// Those that begin with `s`.
 pub const S_WORDS: [(&[u8], Kind); 6] = [
     (b"short", Kind::Short),
     (b"static", Kind::Static),
@@ -78,6 +91,7 @@ pub const S_WORDS: [(&[u8], Kind); 6] = [
     (b"synchronized", Kind::Synchronized),
 ];
 
+/// Those that begin with `t`.
 pub const T_WORDS: [(&[u8], Kind); 6] = [
     (b"this", Kind::This),
     (b"throw", Kind::Throw),
@@ -87,8 +101,10 @@ pub const T_WORDS: [(&[u8], Kind); 6] = [
     (b"try", Kind::Try),
 ];
 
+/// Those that begin with `v`.
 pub const V_WORDS: [(&[u8], Kind); 2] = [(b"void", Kind::Void), (b"volatile", Kind::Volatile)];
 
+/// Those that begin with `w`.
 pub const W_WORDS: [(&[u8], Kind); 1] = [(b"while", Kind::While)];
 
 /// The reserved words that begin with a byte, with their kinds.

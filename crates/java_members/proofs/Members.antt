@@ -94,9 +94,9 @@ whole-finds class ts mid after h (Err e) s one lost = λ other y rest (g, left, 
         let Q : List Token → Type 0 = λ l. Completes g y l rest in
         lost other y rest (subst P (sym same) (subst Q (sym there) ends))
 
-pub whole-lost : (class : List ℕ) (ts after : List Token) (e : SyntaxError) → ((g : Heading) (rest : List Token) → HeadingSpells class g ts rest → BodyFollows g rest → e ≡ error.OutOfMemory)
+pub whole-lost : (class : List ℕ) (ts : List Token) (e : SyntaxError) → ((g : Heading) (rest : List Token) → HeadingSpells class g ts rest → BodyFollows g rest → e ≡ error.OutOfMemory)
     → e ≢ error.OutOfMemory → (y : MemberTree) (other : List Token) → Whole class y ts other → ⊥
-whole-lost class ts after e only differs y other (g, left, s, ends) = differs (only g left s (body-follows g y left other ends))
+whole-lost class ts e only differs y other (g, left, s, ends) = differs (only g left s (body-follows g y left other ends))
 
 -- ---- tokens in the tree
 

@@ -8,3 +8,4 @@ pub mod Order
 pub mod Advanced
 pub mod Looped
 pub mod Again
+pub mod Reached

@@ -32,12 +32,12 @@ follow-down : (text : List ℕ) (low from : ℕ) (ts : List Token) (end : ℕ) �
 follow-down text low from [] end less f = omega arith
 follow-down text low from (t ∷ ts) end less (begins, some, bytes, rest) = (omega arith, some, bytes, rest)
 
-follow-within : (text : List ℕ) (from : ℕ) (ts : List Token) (end : ℕ) → Follow text from ts end → from ≤ end
+pub follow-within : (text : List ℕ) (from : ℕ) (ts : List Token) (end : ℕ) → Follow text from ts end → from ≤ end
 follow-within text from [] end f = f
 follow-within text from (t ∷ ts) end (begins, some, bytes, rest) = let more : t.span.end ≤ end = follow-within text t.span.end ts end rest in omega arith
 
 -- behind a phrase the tokens still follow
-follow-behind : (text : List ℕ) (from : ℕ) (ts rest : List Token) (end : ℕ) → Spent ts rest → Follow text from ts end → Follow text from rest end
+pub follow-behind : (text : List ℕ) (from : ℕ) (ts rest : List Token) (end : ℕ) → Spent ts rest → Follow text from ts end → Follow text from rest end
 follow-behind text from ts rest end (taken, is) f =
     let (mid, first, second) = follow-parts text from ts taken rest end is f in
     follow-down text from mid rest end (follow-within text from taken mid first) second

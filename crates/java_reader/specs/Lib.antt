@@ -5,3 +5,4 @@ pub mod Places
 pub mod Drafts
 pub mod Answers
 pub mod Alike
+pub mod Reach

@@ -7,12 +7,11 @@ ghost use Rattle.java_reader.specs.Parts.{PackageLine, ImportLine, Opening, Inne
 ghost use Rattle.java_reader.specs.Answers.{FindsAny, Adds, Advances};
 ghost use Rattle.java_reader.specs.Drafts as spec;
 
-use desk_base::Name;
+use desk_base::{Items, Name};
 use java_heads::{Header, read_header, read_import, read_package, read_sig};
 use java_members::read_member;
 use java_phrases::{SyntaxError, Tokens};
 use java_tree::{ClassTree, FileTree, Kind, MemberTree, TypeKind};
-use sqlite_items::Items;
 use std::alloc::Global;
 
 /// The lines and the whole types, and the type whose body is open.

@@ -7,9 +7,9 @@ ghost use Rattle.java_reader.specs.Answers.{IsPartCause, AdvancesFrom, IsWhole};
 
 use crate::draft::{Draft, blank_draft, with_part};
 use crate::error::ReadError;
+use desk_base::Items;
 use java_phrases::{SyntaxError, Tokens};
 use java_tree::{FileTree, Token};
-use sqlite_items::Items;
 use std::alloc::Global;
 
 /// One part more, which begins at the place.
@@ -34,7 +34,24 @@ fn whole(draft: Draft, end: u32) -> Result<FileTree, ReadError>
     }
 }
 
-/// Reads the tokens of a text of so many bytes, one part after another.
+/// Reads the tokens ahead, which end a text of so many bytes, one part after another. The cursor is left
+/// where reading ended.
+pub(crate) fn read_ahead(
+    alloc: Global,
+    tokens: &mut Tokens,
+    end: u32,
+) -> Result<FileTree, ReadError>
+    ensures found { IfOk result (Spells (ahead tokens.old)) }
+    ensures cause { IfErr result (IsPartCause end (ahead tokens.old)) }
+{
+    let mut draft = blank_draft(alloc);
+    'parts: while let Some(at) = tokens.next_start() {
+        draft = next_part(alloc, tokens, draft, at)?;
+    }
+    whole(draft, end)
+}
+
+/// Reads the tokens of a text of so many bytes.
 pub(crate) fn read_parts(
     alloc: Global,
     tokens: Items<Token>,
@@ -44,9 +61,5 @@ pub(crate) fn read_parts(
     ensures cause { IfErr result (IsPartCause end tokens) }
 {
     let mut cursor = Tokens::new(alloc, tokens)?;
-    let mut draft = blank_draft(alloc);
-    'parts: while let Some(at) = cursor.next_start() {
-        draft = next_part(alloc, &mut cursor, draft, at)?;
-    }
-    whole(draft, end)
+    read_ahead(alloc, &mut cursor, end)
 }

@@ -7,9 +7,11 @@ mod error;
 mod file;
 mod laws;
 mod line;
+mod reach;
 mod reader;
 
 pub use error::ReadError;
 pub use laws::{one_spelling, one_tree, parts_follow};
 pub use line::line_of;
+pub use reach::furthest;
 pub use reader::read_file;

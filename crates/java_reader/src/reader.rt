@@ -12,10 +12,9 @@ ghost use Rattle.java_reader.specs.Answers.{SpellsFit, IsTokenCause};
 
 use crate::error::ReadError;
 use crate::file::read_parts;
-use desk_base::LimitName;
+use desk_base::{Items, LimitName};
 use java_lexer::{LexError, lex, one_reading};
 use java_tree::{FileTree, Kind, Token};
-use sqlite_items::Items;
 use std::alloc::Global;
 
 /// Whether a token is a name that is too long.

@@ -5,8 +5,10 @@ use Rattle.desk_base.specs.declared.span.Span.{Span}
 use Rattle.java_tree.specs.declared.kind.Kind.{Kind}
 use Rattle.java_tree.specs.declared.kind.Kind.TheVariants as k
 use Rattle.java_tree.specs.declared.token.Token.{Token}
+use Rattle.java_tree.specs.declared.token.Lexeme.{Lexeme}
 use Rattle.java_tree.specs.declared.expr.Expr.{Expr, out-Expr}
 use Rattle.java_tree.specs.declared.expr.Expr.TheOpen.{Expr-F}
+use Rattle.java_tree.specs.declared.member.Ty.{Ty}
 use Rattle.java_tree.specs.declared.stmt.AssignOp.{AssignOp}
 use Rattle.java_tree.specs.declared.stmt.AssignOp.TheVariants as assign
 use Rattle.java_tree.specs.declared.stmt.StepOp.{StepOp}
@@ -130,16 +132,20 @@ step_before room op = do
   found ← target room
   pure (action.StepBefore at op found)
 
-unfoldable pub start : ℕ → Parser Action
-start room = do
-  at ← sign k.New
-  named thread_name
-  started ← condition room
+abbrev pub start_called : Span → Expr → Parser Action
+start_called at started = do
   sign k.Dot
   named start_name
   sign k.LParen
   closing ← sign k.RParen
   pure (action.Start at started closing)
+
+unfoldable pub start : ℕ → Parser Action
+start room = do
+  at ← sign k.New
+  named thread_name
+  started ← condition room
+  start_called at started
 
 abbrev pub created_by : ℕ → Bool → Parser Action
 created_by room true = start room
@@ -170,14 +176,18 @@ final_by false = pure None
 unfoldable pub final_read : Parser (Option Span)
 final_read = look k.Final >>= final_by
 
+abbrev pub local_set : ℕ → Option Span → Ty → Lexeme → Parser Local
+local_set room final_word type name = do
+  sign k.Assign
+  found ← value room
+  pure (record { final_word = final_word; ty = type; name = name; value = found })
+
 unfoldable pub local : ℕ → Parser Local
 local room = do
   final_word ← final_read
   type ← ty
   name ← word k.Name
-  sign k.Assign
-  found ← value room
-  pure (record { final_word = final_word; ty = type; name = name; value = found })
+  local_set room final_word type name
 
 unfoldable pub declaration_within : ℕ → Parser BlockItem
 declaration_within room = do

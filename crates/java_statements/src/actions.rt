@@ -159,6 +159,17 @@ fn step_before(
     Ok(Action::StepBefore(at, op, found))
 }
 
+/// `.start()` behind the thread that is made of an expression.
+fn start_called(tokens: &mut Tokens, at: Span, started: Expr) -> Result<Action, SyntaxError>
+    ensures { Steps (spec.start_called at started) tokens.old result tokens.new }
+{
+    tokens.sign(Kind::Dot)?;
+    named(tokens, b"start".as_slice())?;
+    tokens.sign(Kind::LParen)?;
+    let closing = tokens.sign(Kind::RParen)?;
+    Ok(Action::Start(at, started, closing))
+}
+
 /// `new Thread(e).start()`
 #[tactic(auto, unfolding(crate::specs::Reading::start))]
 fn start(alloc: Global, tokens: &mut Tokens, room: u8) -> Result<Action, SyntaxError>
@@ -167,11 +178,7 @@ fn start(alloc: Global, tokens: &mut Tokens, room: u8) -> Result<Action, SyntaxE
     let at = tokens.sign(Kind::New)?;
     named(tokens, b"Thread".as_slice())?;
     let started = condition(alloc, tokens, room)?;
-    tokens.sign(Kind::Dot)?;
-    named(tokens, b"start".as_slice())?;
-    tokens.sign(Kind::LParen)?;
-    let closing = tokens.sign(Kind::RParen)?;
-    Ok(Action::Start(at, started, closing))
+    start_called(tokens, at, started)
 }
 
 /// An action, where `room` nodes are left for a path through a part of it.

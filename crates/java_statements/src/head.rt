@@ -7,10 +7,9 @@ ghost use Rattle.java_phrases.specs.Cursor.{ahead, Steps};
 use crate::actions::{action, value};
 use crate::drops::let_go;
 use crate::locals::{begins_local, local};
-use desk_base::Span;
+use desk_base::{Boxed, Span};
 use java_phrases::{SyntaxError, Tokens};
 use java_tree::{Action, Expr, ForFirst, Kind, Monitor, Stmt};
-use sqlite_items::Boxed;
 use std::alloc::Global;
 
 /// The parts of a `for` before its statement. It is no `Drop`: what holds one lets it go by a call, since

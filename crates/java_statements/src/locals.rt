@@ -7,7 +7,7 @@ ghost use Rattle.java_phrases.specs.Cursor.{ahead, Steps};
 use crate::actions::value;
 use desk_base::Span;
 use java_phrases::{SyntaxError, Tokens, read_type};
-use java_tree::{BlockItem, Kind, Local};
+use java_tree::{BlockItem, Kind, Lexeme, Local, Ty};
 use std::alloc::Global;
 
 /// Whether a local's declaration stands next: it begins with `final`, `int`, `boolean` or two names.
@@ -35,14 +35,17 @@ fn final_word(tokens: &mut Tokens) -> Result<Option<Span>, SyntaxError>
     }
 }
 
-/// A local's declaration without its semicolon.
-#[tactic(auto, unfolding(crate::specs::Reading::local))]
-pub(crate) fn local(alloc: Global, tokens: &mut Tokens, room: u8) -> Result<Local, SyntaxError>
-    ensures { Steps (spec.local room) tokens.old result tokens.new }
+/// The initializer of a local of this type and name.
+fn local_set(
+    alloc: Global,
+    tokens: &mut Tokens,
+    room: u8,
+    final_word: Option<Span>,
+    ty: Ty,
+    name: Lexeme,
+) -> Result<Local, SyntaxError>
+    ensures { Steps (spec.local_set room final_word ty name) tokens.old result tokens.new }
 {
-    let final_word = final_word(tokens)?;
-    let ty = read_type(alloc, tokens)?;
-    let name = tokens.word(alloc, Kind::Name)?;
     tokens.sign(Kind::Assign)?;
     let value = value(alloc, tokens, room)?;
     Ok(Local {
@@ -51,6 +54,17 @@ pub(crate) fn local(alloc: Global, tokens: &mut Tokens, room: u8) -> Result<Loca
         name,
         value,
     })
+}
+
+/// A local's declaration without its semicolon.
+#[tactic(auto, unfolding(crate::specs::Reading::local))]
+pub(crate) fn local(alloc: Global, tokens: &mut Tokens, room: u8) -> Result<Local, SyntaxError>
+    ensures { Steps (spec.local room) tokens.old result tokens.new }
+{
+    let final_word = final_word(tokens)?;
+    let ty = read_type(alloc, tokens)?;
+    let name = tokens.word(alloc, Kind::Name)?;
+    local_set(alloc, tokens, room, final_word, ty, name)
 }
 
 #[tactic(auto, unfolding(crate::specs::Reading::declaration_within))]

@@ -9,11 +9,25 @@ use crate::actions::{action_within, condition};
 use crate::drops::let_go;
 use crate::head::{ForHead, for_head, sync_head, value_if};
 use crate::locals::{begins_local, declaration};
-use desk_base::Span;
+use desk_base::{Boxed, Items, Span};
 use java_phrases::{SyntaxError, Tokens};
 use java_tree::{Block, BlockItem, Expr, Kind, Stmt};
-use sqlite_items::{Boxed, Items};
 use std::alloc::Global;
+
+fn if_else_tree(
+    alloc: Global,
+    at: Span,
+    test: Expr,
+    does: Stmt,
+    other: Stmt,
+) -> Result<Stmt, SyntaxError>
+    ensures made { IfOk result (λ made. made ≡ tree.If at test does (Some other)) }
+    ensures memory { IfErr result (λ e. e ≡ SyntaxError.OutOfMemory) }
+{
+    let does = Boxed::new(alloc, does)?;
+    let other = Boxed::new(alloc, other)?;
+    Ok(Stmt::If(at, test, does, Some(other)))
+}
 
 fn if_tree(
     alloc: Global,
@@ -25,12 +39,10 @@ fn if_tree(
     ensures made { IfOk result (λ made. made ≡ tree.If at test does other) }
     ensures memory { IfErr result (λ e. e ≡ SyntaxError.OutOfMemory) }
 {
-    let does = Boxed::new(alloc, does)?;
-    let other = match other {
-        Some(stmt) => Some(Boxed::new(alloc, stmt)?),
-        None => None,
-    };
-    Ok(Stmt::If(at, test, does, other))
+    match other {
+        Some(other) => if_else_tree(alloc, at, test, does, other),
+        None => Ok(Stmt::If(at, test, Boxed::new(alloc, does)?, None)),
+    }
 }
 
 fn while_tree(alloc: Global, at: Span, test: Expr, does: Stmt) -> Result<Stmt, SyntaxError>

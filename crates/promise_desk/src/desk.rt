@@ -53,7 +53,8 @@ fn run<I: Source>(alloc: Global, words: &Vec<String>, input: &mut I) -> Ending
 {
     match read_words(alloc, words) {
         Ok(Command::Check) => check(alloc, input),
-        Err(WordsError::Usage) | Err(WordsError::OutOfMemory) => fixed(Status::Usage),
+        Err(WordsError::Usage) => fixed(Status::Usage),
+        Err(WordsError::OutOfMemory) => fixed(Status::Memory),
     }
 }
 

@@ -1,4 +1,4 @@
-use Rattle.core_types.proofs.Refused.{no-negated, no-null, no-unset, no-over, no-unended, no-given}
+use Rattle.core_types.proofs.Refused.{no-negated, no-null, no-unset, no-over, no-unended, no-given, no-constructor-called, no-arguments, unit-of-its-class}
 use Rattle.core_types.proofs.refusing.ill_typed_code_is_refused.Goals as goal
 
 pub returns-clause-negated : goal.returns-clause-negated
@@ -18,3 +18,12 @@ returns-clause-unended c = no-unended
 
 pub returns-clause-given : goal.returns-clause-given
 returns-clause-given c = no-given
+
+pub returns-clause-called : goal.returns-clause-called
+returns-clause-called c = no-constructor-called
+
+pub returns-clause-made : goal.returns-clause-made
+returns-clause-made c = no-arguments
+
+pub returns-clause-listed : goal.returns-clause-listed
+returns-clause-listed c = unit-of-its-class

@@ -1,0 +1,42 @@
+//! The laws of the libraries: calls that do nothing and whose contracts say what holds.
+
+use anyhow::{Result, bail};
+
+fn call_reading(name: &str) -> bool {
+    match name {
+        "java_lexer one_reading" => java_lexer::one_reading(),
+        "java_lexer tokens_follow" => java_lexer::tokens_follow(),
+        "java_lexer tokens_spelled" => java_lexer::tokens_spelled(),
+        "java_expressions one_expression" => java_expressions::one_expression(),
+        "java_statements one_block" => java_statements::one_block(),
+        "java_heads one_part" => java_heads::one_part(),
+        "java_members one_member" => java_members::one_member(),
+        _ => return false,
+    }
+    true
+}
+
+fn call_whole(name: &str) -> bool {
+    match name {
+        "java_reader one_tree" => java_reader::one_tree(),
+        "java_reader one_spelling" => java_reader::one_spelling(),
+        "java_reader parts_follow" => java_reader::parts_follow(),
+        "promise_grammar one_tree" => promise_grammar::one_tree(),
+        "region_scrub one_clearing" => region_scrub::one_clearing(),
+        "promise_scrub one_surface" => promise_scrub::one_surface(),
+        "promise_scrub surfaces_alike" => promise_scrub::surfaces_alike(),
+        "bundle one_bundle" => bundle::one_bundle(),
+        "first_form ascii_names" => first_form::ascii_names(),
+        _ => return false,
+    }
+    true
+}
+
+/// That the law of the line, by its crate and its name, can be called.
+pub(crate) fn put_case(out: &mut String, line: &str) -> Result<()> {
+    if !call_reading(line) && !call_whole(line) {
+        bail!("no law {line}");
+    }
+    out.push_str("holds")?;
+    Ok(())
+}

@@ -1,0 +1,12 @@
+pub mod Moved
+pub mod MovedExpr
+pub mod MovedStmt
+pub mod MovedAnnot
+pub mod MovedMember
+pub mod MovedFile
+pub mod Bare
+pub mod Numbers
+pub mod Units
+pub mod PlainExpr
+pub mod PlainStmt
+pub mod Plain
