@@ -5,6 +5,7 @@ use Rattle.std.specs.List.{flat_map, list_any}
 use Rattle.std.specs.Str.{bytes_eq}
 use Rattle.std.proofs.lemmas.List.{append_assoc, map-append}
 use Rattle.std.proofs.lemmas.List.Folds.{list_any-append}
+use Rattle.std.proofs.lemmas.List.Sums.{fold-append}
 use denote.Enum.Bare.{tag_one}
 use denote.Enum.Declared.{tag_of}
 use Rattle.std.proofs.lemmas.Bool.Decides.{Decides-eqb}
@@ -245,3 +246,7 @@ unit_kept key annotations = all_put key [] annotations
 pub all_kept : (own : List (List ℕ)) (offers : List Offer) → kept_offers false own offers ≡ offers
 all_kept own [] = refl
 all_kept own (o ∷ os) = ap (λ (z : List Offer). o ∷ z) (all_kept own os)
+
+-- written annotations, and then those that are spread
+pub two_kept : (key : List ℕ) (xs ys : List Annotation) → fold (put_annotation key) (fold (put_annotation key) no_promises xs) ys ≡ kept_of key (judged (xs ++ ys))
+two_kept key xs ys = sym (fold-append (put_annotation key) no_promises xs ys) ∙ unit_kept key (xs ++ ys)

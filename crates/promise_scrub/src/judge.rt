@@ -1,4 +1,4 @@
-ghost use Rattle.std.specs.Prelude.{◌≡◌, [], true, None, Some, IfOk, OnOk};
+ghost use Rattle.std.specs.Prelude.{◌≡◌, [], true, false, None, Some, IfOk, OnOk};
 ghost use Rattle.scrub_rules.specs.Facts.{facts_of};
 ghost use Rattle.promise_scrub.specs.Members.{annotation_by};
 ghost use Rattle.promise_scrub.specs.Steps as spec;
@@ -36,6 +36,14 @@ fn not_among(alloc: Global, own: &Texts, offers: &[Offer]) -> Result<Items<Offer
     Ok(kept)
 }
 
+// A written annotation keeps all that it offers.
+fn all_of(own: &Texts, offers: Items<Offer>) -> Items<Offer>
+    ensures { result ≡ spec.kept_offers false own.now offers }
+{
+    let _written = own;
+    offers
+}
+
 // What is left of the promises that an annotation offers: one that is spread gives nothing that the
 // member has itself.
 fn kept_offers(
@@ -49,7 +57,7 @@ fn kept_offers(
     if spread {
         not_among(alloc, own, offers.as_slice())
     } else {
-        Ok(offers)
+        Ok(all_of(own, offers))
     }
 }
 
