@@ -3,5 +3,6 @@ pub mod Facing
 pub mod Gathering
 pub mod Keeping
 pub mod Looking
+pub mod Numbering
 pub mod SeenAlike
 pub mod Single

@@ -1,4 +1,5 @@
 pub mod Alike
+pub mod Counted
 pub mod Differ
 pub mod Found
 pub mod Members
