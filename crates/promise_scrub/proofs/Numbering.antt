@@ -62,6 +62,11 @@ found_after key n (x ∷ xs) a h = go x.verdict refl (found_after key (n + count
 pub where_aside : (key : List ℕ) (js : List Judged) (a : Aside) → IsAmong a (asides key 0 js)
     → (k : ℕ) × (j : Judged) × (code : FindingCode) × IsCounted js k j × (j.verdict ≡ SetAside code) × (a ≡ aside_of key j.annotation.name k code)
 where_aside key js a h =
-    let (i, j, code, at, v, is) = found_after key 0 js a h in
-    (number_in (take i js) + 1, j, code, record { place = i; there = at; left = ap counts v; number = refl }, v,
-    is ∙ ap (λ (k : ℕ). aside_of key j.annotation.name k code) (let e : (0 + number_in (take i js)) + 1 ≡ number_in (take i js) + 1 = omega arith in e))
+    let (i, j, code, at, v, is) = found_after key 0 js a h in (
+      number_in (take i js) + 1,
+      j,
+      code,
+      record { place = i; there = at; left = ap counts v; number = refl },
+      v,
+      is ∙ ap (λ (k : ℕ). aside_of key j.annotation.name k code) (let e : (0 + number_in (take i js)) + 1 ≡ number_in (take i js) + 1 = omega arith in e),
+    )

@@ -124,10 +124,12 @@ codes_same declared kinds fields marks before one other a b = prefixes one other
 header_same : (site : Site) (fields : List FieldFace) (marks : List Mark) (regions regions' : List RegionDecl) (codes codes' : List (Option FindingCode))
     → Header site fields marks regions codes → Header site fields marks regions' codes' → Both regions regions' codes codes'
 header_same site fields marks regions regions' codes codes' h k =
-    let r = scrubs_same site marks regions regions' h.between k.between h.scrubbed k.scrubbed in
-    (r.0, codes_same regions (region_kind regions) (fields_by fields) marks h.between codes codes' h.locks
-    (subst (λ (x : List (Option FindingCode)). AreLockCodes regions (region_kind regions) (fields_by fields) marks x codes') (sym r.1)
-    (subst (λ (x : List RegionDecl). AreLockCodes x (region_kind x) (fields_by fields) marks k.between codes') (sym r.0) k.locks)))
+    let r = scrubs_same site marks regions regions' h.between k.between h.scrubbed k.scrubbed in (
+      r.0,
+      codes_same regions (region_kind regions) (fields_by fields) marks h.between codes codes' h.locks
+          (subst (λ (x : List (Option FindingCode)). AreLockCodes regions (region_kind regions) (fields_by fields) marks x codes') (sym r.1)
+          (subst (λ (x : List RegionDecl). AreLockCodes x (region_kind x) (fields_by fields) marks k.between codes') (sym r.0) k.locks)),
+    )
 
 pub one_face : (class : ClassTree) (a b : Face) → Surface class a → Surface class b → a ≡ b
 one_face class a b s t =

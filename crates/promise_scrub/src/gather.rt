@@ -37,7 +37,15 @@ fn put_header(
         if i >= codes.len() {
             return Ok(());
         }
-        put_annotation(alloc, at, place, mark.kind.name(), codes[i], &mark.tree, unit)?;
+        put_annotation(
+            alloc,
+            at,
+            place,
+            mark.kind.name(),
+            codes[i],
+            &mark.tree,
+            unit,
+        )?;
     }
     Ok(())
 }

@@ -19,7 +19,9 @@ mod texts;
 mod unit;
 
 pub use class_faces::{FaceTy, FieldFace, MemberFace, ParamFace};
-pub use laws::{listed_is_set_aside, one_surface, set_aside_is_listed, standing_keys_differ, surfaces_alike};
+pub use laws::{
+    listed_is_set_aside, one_surface, set_aside_is_listed, standing_keys_differ, surfaces_alike,
+};
 pub use region_tree::RegionDecl;
 pub use scrub::surface_of;
 pub use surface::{Aside, Assumption, Standing, Surface};

@@ -184,7 +184,11 @@ fn put_header(
 }
 
 /// The scoped promises of a header that stand, in written order.
-pub(crate) fn scoped_of(alloc: Global, site: Site, marks: &[Mark]) -> Result<Items<Scoped>, OutOfMemory>
+pub(crate) fn scoped_of(
+    alloc: Global,
+    site: Site,
+    marks: &[Mark],
+) -> Result<Items<Scoped>, OutOfMemory>
     ensures { IfOk result (λ scoped. scoped ≡ spec.scoped_of site marks.now) }
 {
     let mut scoped = Items::new(alloc);

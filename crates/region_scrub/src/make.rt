@@ -6,9 +6,9 @@ ghost use Rattle.region_scrub.specs.Numbers.{head_at, own_numbers};
 ghost use Rattle.region_scrub.specs.Rooting.{Has};
 ghost use Rattle.region_scrub.specs.Stages.{Examined, IsStage};
 
+use crate::chain_state::ChainState;
 use crate::fault::RegionFault;
 use crate::index::Index;
-use crate::chain_state::ChainState;
 use crate::rooting::Rooting;
 use crate::scrubber::{Scrubber, head_of};
 use desk_base::{Name, OutOfMemory};

@@ -6,8 +6,8 @@ ghost use Rattle.region_scrub.specs.Indexes.{IsIndexed};
 ghost use Rattle.region_scrub.specs.Rooting.{Fits, Forgets, ForgetsBut, IsAheadBelow, IsClimbed, IsForgetting, IsForgettingAt, IsForgettingFrom, IsMarked, IsPassed, IsWithin, KeepsTops, Reaches, SharesKey, Stays, known_weight, mark_at};
 ghost use Rattle.region_scrub.specs.Rooting as spec;
 
-use crate::index::Index;
 use crate::chain_state::ChainState;
+use crate::index::Index;
 use desk_base::OutOfMemory;
 use std::alloc::Global;
 use std::collections::BTreeSet;
@@ -76,7 +76,11 @@ impl Rooting {
         ensures stays { (k : ℕ) → mark_at self.old.marks.items k ≢ Passing → mark_at self.new.marks.items k ≡ mark_at self.old.marks.items k }
         ensures begun { (k : ℕ) → mark_at self.old.marks.items k ≢ Fresh → mark_at self.new.marks.items k ≢ Fresh }
     {
-        let mark = if reaches { ChainState::Rooted } else { ChainState::Lost };
+        let mark = if reaches {
+            ChainState::Rooted
+        } else {
+            ChainState::Lost
+        };
         while let Some(region) = self.path.pop() {
             self.marks[region] = mark;
         }

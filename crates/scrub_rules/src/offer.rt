@@ -166,12 +166,7 @@ fn return_offer(alloc: Global, site: SiteKind) -> Result<Offer, OutOfMemory>
     }
 }
 
-fn effects_offer(
-    alloc: Global,
-    at: &Context<'_>,
-    has_this: bool,
-    content: &EffectsContent,
-) -> Offer
+fn effects_offer(alloc: Global, at: &Context<'_>, has_this: bool, content: &EffectsContent) -> Offer
     ensures { result ≡ spec.effects_offer (facts_of at.now) has_this content.now }
 {
     let lookup = Lookup {
@@ -225,7 +220,11 @@ pub fn offers_of(
     match tree {
         PromiseTree::Region(region) => named(alloc, PromiseName::Region, region.name.as_slice()),
         PromiseTree::InRegion(name) => single(alloc, region_offer(alloc, at, name)?),
-        PromiseTree::RegionLock(lock) => named(alloc, PromiseName::RegionLock, lock.name.as_slice()),
+        PromiseTree::RegionLock(lock) => named(
+            alloc,
+            PromiseName::RegionLock,
+            lock.name.as_slice(),
+        ),
         PromiseTree::RequiresLock(items) => lock_offers(alloc, at, site.has_this, items.as_slice()),
         PromiseTree::Unique(UniqueContent::Place) => named(alloc, PromiseName::Unique, param),
         PromiseTree::Unique(UniqueContent::Return) => {
