@@ -100,7 +100,26 @@ fn least_code(first: Option<FindingCode>, offers: &[Offer]) -> Option<FindingCod
     code
 }
 
-// Sets an annotation aside with the first code of its promises, or lets it stand.
+// Sets an annotation aside with its code, or lets it stand.
+fn put_by_code(
+    alloc: Global,
+    place: &Place<'_>,
+    name: PromiseName,
+    tree: &Shared<PromiseTree>,
+    offers: &[Offer],
+    code: Option<FindingCode>,
+    unit: &mut Unit,
+) -> Result<(), OutOfMemory>
+    ensures { OnOk result (unit.new ≡ spec.put_by_code place.now.key.now place.now.spread name tree.now offers.now code unit.old) }
+{
+    match code {
+        Some(code) => unit.put_aside(alloc, place.key, name, code),
+        None => unit.put_offers(alloc, place.key, place.spread, tree, offers),
+    }
+}
+
+// Judges an annotation by what is left of its promises: where nothing is left of one that is spread,
+// it is dropped; else the first code of its promises counts.
 fn put_kept(
     alloc: Global,
     place: &Place<'_>,
@@ -115,10 +134,8 @@ fn put_kept(
         return Ok(());
     }
     let repeat = repeat_code(alloc, &unit.tags, offers.as_slice())?;
-    match least_code(repeat, offers.as_slice()) {
-        Some(code) => unit.put_aside(alloc, place.key, name, code),
-        None => unit.put_offers(alloc, place.key, place.spread, tree, offers.as_slice()),
-    }
+    let code = least_code(repeat, offers.as_slice());
+    put_by_code(alloc, place, name, tree, offers.as_slice(), code, unit)
 }
 
 /// Judges an annotation whose content may stand at its site, and puts it to its unit's promises.

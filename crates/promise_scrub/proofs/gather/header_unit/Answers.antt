@@ -10,4 +10,4 @@ use Rattle.promise_scrub.proofs.gather.header_unit.Goals as goal
 pub returns : goal.returns
 returns c =
     let xs = header_annotations (facts_of c.args.at.now) c.args.site c.args.marks.now c.args.codes.now in
-    c.in_ok-put_header.ensures ∙ ap (λ (u : Target). fold (put_annotation c.args.key.now) u xs) c.new.ensures ∙ unit_kept c.args.key.now xs
+    c.in_ok-put_header.ensures ∙ ap (λ (u : Target). fold (put_annotation c.args.key.now) u xs) c.new-unit.ensures ∙ unit_kept c.args.key.now xs

@@ -4,4 +4,4 @@ use Rattle.promise_scrub.proofs.judge.least_code.Given as goal
 
 -- the promises that are left complete those so far
 abbrev pub invariant-loop-offer : goal.invariant-loop-offer
-invariant-loop-offer l = least_code l.code (drop l.offer-index l.offers) ≡ least_code l.first l.offers
+invariant-loop-offer l = least_code l.code (drop l.offer-index l.offers) ≡ least_code l.initial.code l.offers

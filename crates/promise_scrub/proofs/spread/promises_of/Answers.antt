@@ -13,5 +13,5 @@ returns c =
     let step = put_annotation c.args.key.now in
     let xs = map (written (facts_of c.args.at.now) c.args.member.now) c.args.marks.now in
     let ys = flat_map (spread_to (facts_of c.args.at.now) c.args.member.now) c.args.scoped.now in
-    c.in_ok-put_scoped.ensures ∙ ap (λ (u : Target). fold step u ys) (c.in_ok-put_marks.ensures ∙ ap (λ (u : Target). fold step u xs) c.new.ensures)
+    c.in_ok-put_scoped.ensures ∙ ap (λ (u : Target). fold step u ys) (c.in_ok-put_marks.ensures ∙ ap (λ (u : Target). fold step u xs) c.new-unit.ensures)
     ∙ two_kept c.args.key.now xs ys
