@@ -9,7 +9,7 @@ use crate::values::put_operator;
 use anyhow::{Context, Result, bail};
 use std::alloc::Global;
 
-/// How many steps of its first thread a case runs.
+// So many steps of the first thread.
 fn schedule_of_steps(alloc: Global, steps: &str) -> Result<String> {
     let mut schedule = String::new(alloc);
     for _ in 0..steps.parse::<u32>()? {

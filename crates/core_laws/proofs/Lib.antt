@@ -2,7 +2,6 @@ pub mod Always
 pub mod Bares
 pub mod Carried
 pub mod Lists
-pub mod Plains
 pub mod Owners
 pub mod Marked
 pub mod Spines

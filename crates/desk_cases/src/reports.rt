@@ -1,5 +1,7 @@
 //! Cases of `bundle`, `report` and `first_project`. Answers are written as parts with `; ` between them:
-//! `3 units in 1 types of 1 files`, verdicts, and findings with their places.
+//! `sizes` with the numbers of files, types and units; verdicts, as `firm PROMISE`, `inconsistent PROMISE
+//! blame FINDING` or `contingent PROMISE rests LINK`; and findings that hold or fail with their places, as
+//! `held FINDING at PATH:LINE SUBJECT` or `failing` with the same.
 
 use crate::keys::{finding_of, link_of, promise_of};
 use crate::notation::text_of;
@@ -7,9 +9,10 @@ use crate::surfaces::put_bytes;
 use crate::table::first_word;
 use anyhow::{Context, Result, bail};
 use bundle::{BundleError, check_bundle, read_bundle};
+use consistency::Verdict;
 use desk_base::{Bytes, Items, Text};
 use first_project::judge_project;
-use report::{Answers, FindingRow, Verdict, VerdictRow, report_text, verdict_line};
+use report::{Answers, FindingRow, VerdictRow, report_text, verdict_line};
 use result_records::Finding;
 use std::alloc::Global;
 

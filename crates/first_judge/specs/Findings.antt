@@ -11,7 +11,7 @@ use Rattle.result_records.specs.declared.code.FindingCode.TheVariants as code
 use Rattle.result_records.specs.declared.finding.FindingLink.{FindingLink}
 use Rattle.report.specs.declared.answers.FindingRow.{FindingRow}
 use Rattle.report.specs.declared.answers.VerdictRow.{VerdictRow}
-use Rattle.report.specs.declared.verdict.Verdict.TheVariants as verdict
+use Rattle.consistency.specs.declared.verdict.Verdict.TheVariants as verdict
 use Rattle.java_tree.specs.declared.member.Method.{Method}
 use Rattle.java_tree.specs.declared.member.MemberTree.{MemberTree}
 use Rattle.java_tree.specs.declared.member.MemberTree.TheVariants as member

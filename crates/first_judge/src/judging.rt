@@ -8,9 +8,10 @@ ghost use Rattle.first_judge.specs.Findings.{has_lock, program_row, units_with, 
 
 use crate::lines::LineCursor;
 use crate::rows::{ClassFacts, UnitRows, unit_rows};
+use consistency::Verdict;
 use desk_base::{Items, OutOfMemory, PromiseKey, PromiseName, Text};
 use java_tree::{ClassTree, MemberTree, Mod};
-use report::{FindingRow, Verdict, VerdictRow};
+use report::{FindingRow, VerdictRow};
 use std::alloc::Global;
 
 pub(crate) fn has_lock(class: &ClassTree) -> bool

@@ -10,9 +10,10 @@ ghost use Rattle.first_judge.specs.Parts.{class_text, part_seen, AreAdded};
 
 use crate::judging::{all_rows, count_units, has_lock, program_row, sort_units, written_units};
 use crate::rows::{ClassFacts, UnitRows, lock_key};
+use consistency::Verdict;
 use desk_base::{Items, Name, OutOfMemory};
 use java_tree::ClassTree;
-use report::{Answers, FindingRow, Verdict, VerdictRow};
+use report::{Answers, FindingRow, VerdictRow};
 use std::alloc::Global;
 
 /// A file with the one class that it declares.

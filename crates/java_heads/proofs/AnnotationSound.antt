@@ -14,7 +14,7 @@ use Rattle.java_tree.specs.declared.member.Elements.{Elements}
 use Rattle.java_tree.specs.declared.member.Elements.TheVariants as elements
 use Rattle.java_tree.specs.declared.member.Elem.{Elem}
 use Rattle.java_tree.specs.declared.member.Elem.TheVariants as element
-use Rattle.java_phrases.specs.Phrase.{Phrase, Nothing, ◌⨾◌, ◌⊢◌, Never, Mark, Sign, Spelled, Separated, Each}
+use Rattle.java_phrases.specs.Phrase.{Phrase, Nothing, ◌⨾◌, Never, Mark, Sign, Spelled, Separated, Each}
 use Rattle.java_phrases.specs.Parser.{Found, and_then, pure, fail, sees, sign, word}
 use Rattle.java_phrases.proofs.Phrases.{and_then-some, pure-is, sign-sound, word-sound, spent-nothing, not_longer}
 use Rattle.java_phrases.proofs.Turned.{reverse_push}
@@ -22,7 +22,7 @@ use Rattle.java_heads.specs.declared.nest.Frame.{Frame}
 use Rattle.java_heads.specs.declared.nest.Opened.{Opened}
 use Rattle.java_heads.specs.declared.nest.Opened.TheVariants as opened
 use Rattle.java_heads.specs.declared.nest.Nest.{Nest}
-use Rattle.java_heads.specs.Annotation.{Qualified, value_name, ValueWord, Held, elems_of, inner_of, Listed, ElementsBy, AnnotBy, inner_annot, InnerSpells, ElemBy, ElemWithin, AnnotSpells}
+use Rattle.java_heads.specs.Annotation.{Qualified, value_name, ValueWord, Held, elems_of, inner_of, Listed, ElementsBy, AnnotBy, inner_annot, ElemBy, ElemWithin, AnnotSpells}
 use Rattle.java_heads.specs.Reading.{value_word, value_by, layer, frame, with_elem, one_tree, many_tree, closed, listed_by, inside, inside_by, filled_by, parenthesized, head_by, head, more_by, placed_by, placed, text_placed, nest, surrounded_by, surrounded, entered_by, entered, turn_by, turn, whole_by, is_whole, nested_from, nested, annot_of, annotation, qualified}
 use Rattle.java_heads.proofs.Lists.{Spends, spends-mark, spends-sign, spends-spelled, spends-then, spends-each, sign-shorter, word-shorter, mark-sound, each-snoc}
 use Rattle.java_heads.proofs.NameLaws.{qualified-sound, spends-qualified}

@@ -15,7 +15,7 @@ use Rattle.java_tree.specs.declared.member.Ty.{Ty}
 use Rattle.java_tree.specs.declared.member.Ty.TheVariants as tree
 use Rattle.java_tree.specs.declared.member.Param.{Param}
 use Rattle.java_tree.specs.declared.member.Init.{Init}
-use Rattle.java_phrases.specs.Phrase.{Phrase, ◌⨾◌, ◌⊢◌, Mark, Sign, Spelled, Each, Named, Optional}
+use Rattle.java_phrases.specs.Phrase.{◌⨾◌, Mark, Sign, Spelled, Each, Named, Optional}
 use Rattle.java_phrases.specs.Parser.{Found, Lost, ◌>>=◌, pure, fail, next_kind, kind_at, same_kind, sees, sign, word}
 use Rattle.java_phrases.specs.Types.{TySpells, ty}
 use Rattle.java_phrases.specs.declared.error.SyntaxError.{SyntaxError}
@@ -27,7 +27,7 @@ use Rattle.java_phrases.proofs.Phrases.{and_then-some, pure-is, word-sound, word
 use Rattle.java_phrases.proofs.TypeLaws.{ty-sound, ty-complete}
 use Rattle.java_heads.specs.declared.declaration.Declaration.TheVariants as of
 use Rattle.java_heads.specs.Modifiers.{kind_of, FitsAs}
-use Rattle.java_heads.specs.Spelling.{ModSpells, Mods, Params, Throws, ResultSpells, InitPart, FieldParts, string_name}
+use Rattle.java_heads.specs.Spelling.{ModSpells, Params, Throws, ResultSpells, InitPart, string_name}
 use Rattle.java_heads.specs.Reading.{all_modifiers, fits, parameters, throws, perhaps, named, field_end}
 use Rattle.java_heads.proofs.Lists.{mark-sound, mark-complete, sees-kind}
 use Rattle.java_heads.proofs.ModifierLaws.{all_modifiers-sound, all_modifiers-complete, fits-sound, fits-complete, AfterMods, after-mods}

@@ -72,6 +72,10 @@ word_is test (modifier.Word word at) = test word
 abbrev pub words_that : (ModWord → Bool) → List Mod → ℕ
 words_that test mods = count_by (word_is test) mods
 
+-- whether the modifier is `public`, `protected` or `private`
+unfoldable pub access_word : Mod → Bool
+access_word m = word_is is_access m
+
 abbrev pub most : Declaration → ModWord → ℕ
 most declaration word = if may_have declaration word then 1 else 0
 

@@ -1,6 +1,6 @@
 //! Modifiers, and which may stand before which declaration.
 
-ghost use Rattle.std.specs.Prelude.{◌≡◌, []};
+ghost use Rattle.std.specs.Prelude.{◌≡◌, [], count_by};
 ghost use Rattle.java_phrases.specs.Parser.{turns};
 ghost use Rattle.java_phrases.specs.Cursor.{ahead, Steps};
 ghost use Rattle.java_heads.specs.Modifiers as table;
@@ -153,8 +153,9 @@ fn is_word(modifier: &Mod, word: ModWord) -> bool
     }
 }
 
+#[tactic(auto, unfolding(crate::specs::Modifiers::access_word))]
 fn is_access_word(modifier: &Mod) -> bool
-    ensures { result ≡ table.word_is table.is_access modifier.now }
+    ensures { result ≡ table.access_word modifier.now }
 {
     match modifier {
         Mod::Annot(_) => false,
@@ -171,11 +172,15 @@ fn times(mods: &[Mod], word: ModWord) -> usize
 }
 
 fn access_words(mods: &[Mod]) -> usize
-    ensures { result ≡ table.words_that table.is_access mods.now }
+    ensures { result ≡ count_by table.access_word mods.now }
 {
-    mods.iter()
-        .filter(|modifier| is_access_word(modifier))
-        .count()
+    let mut count = 0;
+    for modifier in mods {
+        if is_access_word(modifier) {
+            count += 1;
+        }
+    }
+    count
 }
 
 #[tactic(auto, unfolding(crate::specs::Reading::word_fits))]
@@ -192,7 +197,7 @@ fn word_fits(declaration: Declaration, mods: &[Mod], word: ModWord) -> bool
 
 /// Whether these modifiers may stand before the declaration: no word twice, none that may not stand
 /// there, each that has to, and at most one of `public`, `protected` and `private`.
-#[tactic(auto, unfolding(crate::specs::Reading::fits))]
+#[tactic(auto, unfolding(crate::specs::Reading::fits, crate::specs::Modifiers::access_word))]
 pub(crate) fn modifiers_fit(declaration: Declaration, mods: &[Mod]) -> bool
     ensures { result ≡ spec.fits declaration mods.now }
 {

@@ -6,7 +6,7 @@ use Rattle.desk_base.specs.declared.limit.LimitName.TheVariants as limit
 use Rattle.bundle.specs.Entry.{Entry}
 use Rattle.bundle.specs.Bundle.{IsBundle, BadAt}
 use Rattle.report.specs.declared.answers.Answers.{Answers}
-use Rattle.report.specs.declared.verdict.Verdict.TheVariants as verdict
+use Rattle.consistency.specs.declared.verdict.Verdict.TheVariants as verdict
 use Rattle.report.specs.Report.{report_bytes, same_verdict}
 use Rattle.java_reader.specs.declared.error.ReadError.{ReadError}
 use Rattle.first_project.specs.Limits.{passed_limit}

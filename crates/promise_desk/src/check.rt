@@ -7,10 +7,11 @@ ghost use Rattle.promise_desk.specs.Endings.{EndsAs, text_of, status_of};
 
 use crate::status::Status;
 use bundle::{BundleError, read_bundle};
+use consistency::Verdict;
 use desk_base::{Bytes, LimitName, Name, OutOfMemory};
 use first_project::{ProjectError, judge_project};
 use java_reader::ReadError;
-use report::{Answers, Verdict, report_text};
+use report::{Answers, report_text};
 use result_records::Put;
 use std::alloc::Global;
 

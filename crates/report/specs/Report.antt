@@ -2,8 +2,8 @@
 use Rattle.std.specs.Prelude.{ℕ, List, ◌++◌, Bool, true, false, ◌&&◌, filter, count_by, length, codes, decimal}
 use Rattle.std.specs.List.{flat_map}
 use Rattle.report.specs.Rows.{is_program, is_promise, verdict_bytes, finding_bytes}
-use Rattle.report.specs.declared.verdict.Verdict.{Verdict}
-use Rattle.report.specs.declared.verdict.Verdict.TheVariants as verdict
+use Rattle.consistency.specs.declared.verdict.Verdict.{Verdict}
+use Rattle.consistency.specs.declared.verdict.Verdict.TheVariants as verdict
 use Rattle.report.specs.declared.answers.VerdictRow.{VerdictRow}
 use Rattle.report.specs.declared.answers.FindingRow.{FindingRow}
 use Rattle.report.specs.declared.answers.Answers.{Answers}

@@ -9,15 +9,11 @@ use Rattle.result_records.specs.declared.finding.FindingLink.{FindingLink}
 use Rattle.result_records.specs.declared.finding.FindingLink.TheVariants as link
 use Rattle.result_records.specs.declared.finding.VouchKey.{VouchKey}
 use Rattle.result_records.specs.declared.finding.VouchKey.TheVariants as vouch
-use Rattle.report.specs.declared.verdict.Verdict.{Verdict}
-use Rattle.report.specs.declared.verdict.Verdict.TheVariants as verdict
+use Rattle.consistency.specs.Verdict.{verdict_word}
+use Rattle.consistency.specs.declared.verdict.Verdict.{Verdict}
+use Rattle.consistency.specs.declared.verdict.Verdict.TheVariants as verdict
 use Rattle.report.specs.declared.answers.VerdictRow.{VerdictRow}
 use Rattle.report.specs.declared.answers.FindingRow.{FindingRow}
-
-abbrev pub verdict_word : Verdict → List ℕ
-verdict_word verdict.Firm = codes "firm"
-verdict_word verdict.Contingent = codes "contingent"
-verdict_word verdict.Inconsistent = codes "inconsistent"
 
 -- the row is that of `Program`, which is the project itself and no promise of it
 abbrev pub is_program_name : PromiseName → Bool

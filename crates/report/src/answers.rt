@@ -1,4 +1,4 @@
-use crate::verdict::Verdict;
+use consistency::Verdict;
 use desk_base::{Bytes, Items, PromiseKey};
 use result_records::{Finding, FindingKey, FindingLink};
 

@@ -3,7 +3,7 @@ ghost use Rattle.report.specs.Rows.{is_promise};
 ghost use Rattle.report.specs.Report.{count_line, count_part, fails_row, finding_counts, has_verdict, promise_counts};
 
 use crate::answers::{FindingRow, VerdictRow};
-use crate::verdict::Verdict;
+use consistency::Verdict;
 use desk_base::{Bytes, OutOfMemory, PromiseName};
 use result_records::Put;
 

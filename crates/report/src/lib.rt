@@ -6,10 +6,8 @@ mod answers;
 mod counts;
 mod finding_lines;
 mod text;
-mod verdict;
 mod verdict_lines;
 
 pub use answers::{Answers, FindingRow, VerdictRow};
 pub use text::report_text;
-pub use verdict::Verdict;
 pub use verdict_lines::verdict_line;

@@ -2,7 +2,7 @@ ghost use Rattle.std.specs.Prelude.{◌≡◌, ◌++◌, IfOk, OnOk};
 ghost use Rattle.report.specs.Rows.{vouch_bytes, link_bytes, rests_part, blame_part, reason_part, verdict_part, verdict_bytes};
 
 use crate::answers::VerdictRow;
-use crate::verdict::Verdict;
+use consistency::Verdict;
 use desk_base::{Bytes, OutOfMemory, PromiseName};
 use result_records::{FindingKey, FindingLink, Put, VouchKey, put_key, put_promise};
 use std::alloc::Global;

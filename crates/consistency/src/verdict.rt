@@ -1,5 +1,5 @@
 ghost use Rattle.std.specs.Prelude.{◌≡◌};
-ghost use Rattle.report.specs.Rows.{verdict_word};
+ghost use Rattle.consistency.specs.Verdict.{verdict_word};
 
 /// What is concluded of a promise: that it holds by the code alone, that it holds if the vouches and
 /// assumptions that it rests on do, or that the code isn't shown to keep it.

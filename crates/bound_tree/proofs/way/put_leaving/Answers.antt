@@ -1,0 +1,6 @@
+use Rattle.std.proofs.Common.{◌∙◌}
+use Rattle.bound_tree.proofs.Pushing.{pushed, way_of-Leaves}
+use Rattle.bound_tree.proofs.way.put_leaving.Goals as goal
+
+pub returns : goal.returns
+returns c = pushed _ _ _ c.in_ok-push.ensures.ok ∙ way_of-Leaves _

@@ -1,0 +1,9 @@
+pub mod Tree
+pub mod Reading
+pub mod Places
+pub mod Claims
+pub mod Flows
+pub mod Runs
+pub mod Live
+pub mod Ways
+pub mod Laws

@@ -1,0 +1,12 @@
+pub mod Blame
+pub mod Flat
+pub mod Flattening
+pub mod Graph
+pub mod Keys
+pub mod Numbers
+pub mod Rounds
+pub mod Steps
+pub mod Tables
+pub mod Verdict
+pub mod Verdicts
+pub mod Wired
