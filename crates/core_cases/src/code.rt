@@ -84,10 +84,10 @@ struct Draft {
 
 impl Draft {
     fn push(&mut self, instr: Instr) -> Result<()> {
-        let mut body = self.open.pop().context("no block")?;
-        body.push(instr)?;
-        self.open.push(body)?;
-        Ok(())
+        let Some(body) = self.open.last_mut() else {
+            bail!("no block");
+        };
+        Ok(body.push(instr)?)
     }
 
     fn close(&mut self) -> Result<()> {

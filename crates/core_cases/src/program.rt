@@ -106,20 +106,26 @@ fn add_line(alloc: Global, program: &mut Program, line: &str) -> Result<()> {
     Ok(())
 }
 
+fn add_lines(alloc: Global, program: &mut Program, text: &str) -> Result<()> {
+    for line in text.lines() {
+        if !line.is_empty() {
+            add_line(alloc, program, line)?;
+        }
+    }
+    Ok(())
+}
+
 /// The program that is written so, with the main of the class 0, and with the code in the place of `*`.
 pub(crate) fn program_of(alloc: Global, written: &str, code: &str) -> Result<Program> {
     let (before, after) = written.split_once('*').context("no place for code")?;
     let text = format!(in alloc; "{before}{code}{after}")?;
+    let mains = Items::from_slice(alloc, &[0])?;
     let mut program = Program {
         classes: Items::new(alloc),
         units: Items::new(alloc),
-        mains: Items::from_slice(alloc, &[0])?,
+        mains,
         members: Items::new(alloc),
     };
-    for line in text.as_str().lines() {
-        if !line.is_empty() {
-            add_line(alloc, &mut program, line)?;
-        }
-    }
+    add_lines(alloc, &mut program, text.as_str())?;
     Ok(program)
 }

@@ -75,6 +75,28 @@ fn copied(alloc: Global, program: &Program, mains: &[u32], schedule: &[u32]) -> 
     Ok(config)
 }
 
+fn put_moved(
+    alloc: Global,
+    out: &mut String,
+    program: &Program,
+    mains: &[u32],
+    schedule: &[u32],
+) -> Result<()> {
+    let config = moved(alloc, program, mains, schedule)?;
+    put_config(out, &config)
+}
+
+fn put_copied(
+    alloc: Global,
+    out: &mut String,
+    program: &Program,
+    mains: &[u32],
+    schedule: &[u32],
+) -> Result<()> {
+    let config = copied(alloc, program, mains, schedule)?;
+    put_config(out, &config)
+}
+
 fn put_both(
     alloc: Global,
     out: &mut String,
@@ -83,9 +105,9 @@ fn put_both(
     schedule: &[u32],
 ) -> Result<()> {
     let mut other = String::new(alloc);
-    put_config(&mut other, &copied(alloc, program, mains, schedule)?)?;
+    put_copied(alloc, &mut other, program, mains, schedule)?;
     let mut line = String::new(alloc);
-    put_config(&mut line, &moved(alloc, program, mains, schedule)?)?;
+    put_moved(alloc, &mut line, program, mains, schedule)?;
     out.push_str(line.as_str())?;
     if line.as_str() != other.as_str() {
         write!(out, " but by copies {other}")?;
@@ -95,9 +117,9 @@ fn put_both(
 
 /// The state that the run comes to; both states where steps of a copy come to another one.
 pub(crate) fn put_state(alloc: Global, out: &mut String, run: &Run<'_>) -> Result<()> {
-    let program = program_of(alloc, run.program, run.code)?;
     let mains = numbers_of(alloc, run.mains)?;
     let schedule = numbers_of(alloc, run.schedule)?;
+    let program = program_of(alloc, run.program, run.code)?;
     put_both(alloc, out, &program, mains.as_slice(), schedule.as_slice())
 }
 
@@ -118,15 +140,29 @@ fn put_access(out: &mut String, access: Option<Access>) -> Result<()> {
     Ok(())
 }
 
-/// The next access of each of the first three threads behind the run.
-pub(crate) fn put_accesses(alloc: Global, out: &mut String, run: &Run<'_>) -> Result<()> {
-    let program = program_of(alloc, run.program, run.code)?;
-    let mains = numbers_of(alloc, run.mains)?;
-    let schedule = numbers_of(alloc, run.schedule)?;
-    let config = moved(alloc, &program, mains.as_slice(), schedule.as_slice())?;
+fn put_three(out: &mut String, program: &Program, config: &Config) -> Result<()> {
     for thread in 0..3 {
         out.push_str(if thread == 0 { "" } else { "; " })?;
-        put_access(out, next_access(&program, &config, thread))?;
+        put_access(out, next_access(program, config, thread))?;
     }
     Ok(())
+}
+
+fn put_next(
+    alloc: Global,
+    out: &mut String,
+    program: &Program,
+    mains: &[u32],
+    schedule: &[u32],
+) -> Result<()> {
+    let config = moved(alloc, program, mains, schedule)?;
+    put_three(out, program, &config)
+}
+
+/// The next access of each of the first three threads behind the run.
+pub(crate) fn put_accesses(alloc: Global, out: &mut String, run: &Run<'_>) -> Result<()> {
+    let mains = numbers_of(alloc, run.mains)?;
+    let schedule = numbers_of(alloc, run.schedule)?;
+    let program = program_of(alloc, run.program, run.code)?;
+    put_next(alloc, out, &program, mains.as_slice(), schedule.as_slice())
 }

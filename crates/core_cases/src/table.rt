@@ -9,7 +9,7 @@ use crate::values::put_operator;
 use anyhow::{Context, Result, bail};
 use std::alloc::Global;
 
-/// How many steps of its first thread a case runs.
+// So many steps of the first thread.
 fn schedule_of_steps(alloc: Global, steps: &str) -> Result<String> {
     let mut schedule = String::new(alloc);
     for _ in 0..steps.parse::<u32>()? {
@@ -81,19 +81,37 @@ fn put_line(
     Ok(())
 }
 
-/// The answers to all cases of the table.
+fn put_section(alloc: Global, out: &mut String, program: &str, section: &str) -> Result<()> {
+    let (heading, body) = section.split_once('\n').unwrap_or((section, ""));
+    out.push_str(if out.is_empty() { "== " } else { "\n== " })?;
+    write!(out, "{heading}\n")?;
+    for line in body.lines() {
+        put_line(alloc, out, program, heading, line)?;
+    }
+    Ok(())
+}
+
+// A program, and the sections whose cases run it.
+fn put_part(alloc: Global, out: &mut String, part: &str) -> Result<()> {
+    let (program, _) = part.split_once("\n== ").unwrap_or((part, ""));
+    out.push_str(if out.is_empty() {
+        "== program\n"
+    } else {
+        "\n== program\n"
+    })?;
+    for line in program.lines() {
+        put_line(alloc, out, program, "program", line)?;
+    }
+    for section in part.split("\n== ").skip(1) {
+        put_section(alloc, out, program, section)?;
+    }
+    Ok(())
+}
+
+/// The answers to all cases of the table, each below the program that it runs.
 pub(crate) fn put_table(alloc: Global, out: &mut String, table: &str) -> Result<()> {
-    let mut program = "";
-    for section in table.split("\n== ").skip(1) {
-        let (heading, body) = section.split_once('\n').unwrap_or((section, ""));
-        if heading == "program" {
-            program = body;
-        }
-        out.push_str(if out.is_empty() { "== " } else { "\n== " })?;
-        write!(out, "{heading}\n")?;
-        for line in body.lines() {
-            put_line(alloc, out, program, heading, line)?;
-        }
+    for part in table.split("\n== program\n").skip(1) {
+        put_part(alloc, out, part)?;
     }
     Ok(())
 }

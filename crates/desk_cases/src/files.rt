@@ -5,7 +5,7 @@ use crate::surfaces::put_bytes;
 use crate::trees::sort_of;
 use anyhow::{Context, Result, bail};
 use first_form::is_first_form;
-use java_reader::{ReadError, line_of, read_file};
+use java_reader::{ReadError, furthest, line_of, read_file};
 use java_tree::{ClassTree, FileTree, MemberTree, TypeKind};
 use std::alloc::Global;
 
@@ -89,6 +89,7 @@ fn put_file(alloc: Global, out: &mut String, words: &str, file: &FileTree) -> Re
     match words {
         "outlined" => put_outline(out, file),
         "of the first form" => put_form(alloc, out, file),
+        "furthest" => Ok(()),
         _ => put_bytes(out, b"read"),
     }
 }
@@ -96,8 +97,15 @@ fn put_file(alloc: Global, out: &mut String, words: &str, file: &FileTree) -> Re
 fn put_text(alloc: Global, out: &mut String, words: &str, text: &[u8]) -> Result<()> {
     match read_file(alloc, text) {
         Ok(file) => put_file(alloc, out, words, &file),
-        Err(error) => put_error(out, error),
+        Err(error) if words != "furthest" => put_error(out, error),
+        Err(ReadError::Grammar { at }) => Ok(write!(out, "{}", furthest(alloc, text, at)?)?),
+        Err(_) => Ok(()),
     }
+}
+
+/// How far reading came where a part of the file isn't spelled, as a byte's offset; else nothing.
+pub(crate) fn put_furthest(alloc: Global, out: &mut String, text: &[u8]) -> Result<()> {
+    put_text(alloc, out, "furthest", text)
 }
 
 // The text in the gap of another.

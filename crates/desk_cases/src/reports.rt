@@ -1,5 +1,7 @@
 //! Cases of `bundle`, `report` and `first_project`. Answers are written as parts with `; ` between them:
-//! `3 units in 1 types of 1 files`, verdicts, and findings with their places.
+//! `sizes` with the numbers of files, types and units; verdicts, as `firm PROMISE`, `inconsistent PROMISE
+//! blame FINDING` or `contingent PROMISE rests LINK`; and findings that hold or fail with their places, as
+//! `held FINDING at PATH:LINE SUBJECT` or `failing` with the same.
 
 use crate::keys::{finding_of, link_of, promise_of};
 use crate::notation::text_of;

@@ -109,7 +109,7 @@ fn put_standing(out: &mut String, promise: &Standing) -> Result<()> {
     out.push_str("  stands ")?;
     put_key(out, &promise.key)?;
     out.push_str(" (")?;
-    put_content(out, &promise.tree)?;
+    put_content(out, promise.tree.get())?;
     out.push_str(")\n")?;
     Ok(())
 }
@@ -131,7 +131,7 @@ fn put_assumption(out: &mut String, assumption: &Assumption) -> Result<()> {
     out.push_str(": ")?;
     put_key(out, &assumption.key)?;
     out.push_str(" (")?;
-    put_content(out, &assumption.tree)?;
+    put_content(out, assumption.tree.get())?;
     out.push_str(")\n")?;
     Ok(())
 }

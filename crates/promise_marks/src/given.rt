@@ -6,7 +6,7 @@ ghost use Rattle.promise_marks.specs.Marks.{IsTree};
 use desk_base::{Bytes, OutOfMemory};
 use java_lexer::string_value;
 use java_tree::{AnnotLayer, Elem, Elements, Lexeme};
-use promise_grammar::{PromiseError, PromiseKind, PromiseTree, read_promise};
+use promise_grammar::{PromiseError, PromiseKind, PromiseTree, Shared, read_promise};
 use std::alloc::Global;
 
 fn last_name(words: &[Lexeme]) -> &[u8]
@@ -78,14 +78,14 @@ pub(crate) fn tree_of(
     alloc: Global,
     kind: PromiseKind,
     content: &Option<Bytes>,
-) -> Result<Option<PromiseTree>, OutOfMemory>
+) -> Result<Option<Shared<PromiseTree>>, OutOfMemory>
     ensures { IfOk result (λ tree. IsTree kind content.now tree) }
 {
     let Some(content) = content else {
         return Ok(None);
     };
     match read_promise(alloc, kind, content.as_slice()) {
-        Ok(tree) => Ok(Some(tree)),
+        Ok(tree) => Ok(Some(Shared::new(alloc, tree)?)),
         Err(PromiseError::Grammar) => Ok(None),
         Err(PromiseError::OutOfMemory) => Err(OutOfMemory),
     }

@@ -1,71 +1,68 @@
--- The surface put together from its parts.
-use Rattle.std.proofs.Common.{◌≡◌, ℕ, List, ◌∙◌, ap, Bool}
-use Rattle.std.specs.Prelude.{Option}
-use Rattle.std.specs.BTreeMap.{BTreeMap}
+-- What is found in units, put together.
+use Rattle.std.proofs.Common.{◌≡◌, ℕ, List, [], ◌∷◌, ◌++◌, refl, sym, ◌∙◌, ap, append-nil}
+use Rattle.std.specs.Prelude.{Option, fold}
+use Rattle.std.specs.List.{flat_map}
+use Rattle.std.proofs.lemmas.List.{append_assoc}
+use Rattle.promise_scrub.specs.declared.found.Found.{Found}
+use Rattle.promise_scrub.specs.declared.surface.Aside.{Aside}
+use Rattle.promise_scrub.specs.declared.surface.Standing.{Standing}
+use Rattle.promise_scrub.specs.Found.{found_in, found_more, found_nothing}
+use Rattle.promise_scrub.specs.Surfaces.{UnitAnnotations, aside_at, assumptions_of, class_facts, face_with, names_of, standing_at, units_of, vouched_at}
+use Rattle.promise_scrub.specs.declared.surface.Assumption.{Assumption}
+use Rattle.promise_scrub.specs.declared.surface.Surface.{Surface as Face}
 use Rattle.java_tree.specs.declared.file.ClassTree.{ClassTree}
 use Rattle.class_faces.specs.declared.face.FieldFace.{FieldFace}
 use Rattle.class_faces.specs.declared.face.MemberFace.{MemberFace}
 use Rattle.class_faces.specs.Faces.{field_faces, member_faces}
 use Rattle.promise_marks.specs.declared.mark.Mark.{Mark}
 use Rattle.region_tree.specs.declared.decl.RegionDecl.{RegionDecl}
-use Rattle.scrub_rules.specs.declared.code.ScrubCode.{ScrubCode}
-use Rattle.scrub_rules.specs.Target.{Kinds, kinds_in}
-use Rattle.promise_scrub.specs.declared.found.Found.{Found}
-use Rattle.promise_scrub.specs.declared.lock.Lock.{Lock}
-use Rattle.promise_scrub.specs.declared.surface.Assumption.{Assumption}
-use Rattle.promise_scrub.specs.declared.surface.Surface.{Surface as Face}
-use Rattle.promise_scrub.specs.Locks.{region_kind}
-use Rattle.promise_scrub.specs.Surfaces.{HasKinds, lock_kind, names_of, found_with, face_with, assumptions_of}
+use Rattle.result_records.specs.declared.code.FindingCode.{FindingCode}
+use Rattle.scrub_rules.specs.Target.{Kinds}
 
-same_kinds : (f g : Kinds) → ((name : List ℕ) → f name ≡ g name) → f ≡ g
-same_kinds f g h = λ i name. h name i
+abbrev mk : List Standing → List Aside → List (List ℕ) → Found
+mk s a v = record { standing = s; aside = a; vouched = v }
 
-abbrev pub made : ClassTree → List RegionDecl → List ℕ → List (List ℕ) → List FieldFace → List MemberFace → Found → List Assumption → Face
-made class regions name implements fields members found assumptions = record {
-  kind = class.kind;
-  name = name;
-  implements = implements;
-  fields = fields;
-  members = members;
-  regions = regions;
-  standing = found.standing;
-  aside = found.aside;
-  assumptions = assumptions;
-  vouched = found.vouched;
-}
+found_after : (s : List Standing) (a : List Aside) (v : List (List ℕ)) (units : List UnitAnnotations)
+    → fold found_more (mk s a v) units ≡ mk (s ++ flat_map standing_at units) (a ++ flat_map aside_at units) (v ++ flat_map vouched_at units)
+found_after s a v [] = λ i. mk (sym (append-nil s) i) (sym (append-nil a) i) (sym (append-nil v) i)
+found_after s a v (u ∷ us) =
+    found_after (s ++ standing_at u) (a ++ aside_at u) (v ++ vouched_at u) us
+    ∙ (λ i. mk (append_assoc s (standing_at u) (flat_map standing_at us) i) (append_assoc a (aside_at u) (flat_map aside_at us) i)
+    (append_assoc v (vouched_at u) (flat_map vouched_at us) i))
 
-together : (class : ClassTree) (regions : List RegionDecl) (n n' : List ℕ) (i i' : List (List ℕ)) (fs fs' : List FieldFace) (ms ms' : List MemberFace) (fd fd' : Found) (asm asm' : List Assumption)
-    → n ≡ n' → i ≡ i' → fs ≡ fs' → ms ≡ ms' → fd ≡ fd' → asm ≡ asm' → made class regions n i fs ms fd asm ≡ made class regions n' i' fs' ms' fd' asm'
-together class regions n n' i i' fs fs' ms ms' fd fd' asm asm' en ei ef em ed ea =
-    ap (λ (z : List ℕ). made class regions z i fs ms fd asm) en
-    ∙ ap (λ (z : List (List ℕ)). made class regions n' z fs ms fd asm) ei
-    ∙ ap (λ (z : List FieldFace). made class regions n' i' z ms fd asm) ef
-    ∙ ap (λ (z : List MemberFace). made class regions n' i' fs' z fd asm) em
-    ∙ ap (λ (z : Found). made class regions n' i' fs' ms' z asm) ed
-    ∙ ap (λ (z : List Assumption). made class regions n' i' fs' ms' fd' z) ea
+-- what is found in units is what each of them has
+pub found_all : (units : List UnitAnnotations) → found_in found_nothing units
+    ≡ record { standing = flat_map standing_at units; aside = flat_map aside_at units; vouched = flat_map vouched_at units }
+found_all units = found_after [] [] [] units
 
-pub face_is : (class : ClassTree) (header : List Mark) (marks : List (List Mark)) (regions regions_now : List RegionDecl) (locks locks_now : List Lock)
-    (codes codes_now : List (Option ScrubCode)) (region_map lock_map : BTreeMap (List ℕ) Bool) (name : List ℕ) (implements : List (List ℕ))
-    (fields : List FieldFace) (members : List MemberFace) (found : Found) (assumptions : List Assumption)
-    → regions_now ≡ regions → locks_now ≡ locks → codes_now ≡ codes → HasKinds region_map (region_kind regions_now) → HasKinds lock_map (lock_kind locks_now)
+-- the surface put together from its parts
+pub face_is : (class : ClassTree) (header : List Mark) (marks : List (List Mark)) (regions : List RegionDecl) (rk lk : Kinds) (codes : List (Option FindingCode))
+    (name : List ℕ) (implements : List (List ℕ)) (fields : List FieldFace) (members : List MemberFace) (found : Found) (assumptions : List Assumption)
     → name ≡ class.name.text → implements ≡ names_of class.implements → fields ≡ field_faces class → members ≡ member_faces class
-    → found ≡ found_with class header marks (kinds_in region_map) (kinds_in lock_map) codes_now
-    → assumptions ≡ assumptions_of (kinds_in lock_map) class.name.text header codes_now
-    → made class regions name implements fields members found assumptions
-    ≡ face_with class header marks regions (region_kind regions) (lock_kind locks) codes
-face_is class header marks regions regions_now locks locks_now codes codes_now region_map lock_map name implements fields members found assumptions
-    same_regions same_locks same_codes has_regions has_locks name_is implements_is fields_is members_is found_is assumptions_is =
-    let rk : kinds_in region_map ≡ region_kind regions =
-    same_kinds (kinds_in region_map) (region_kind regions_now) has_regions.has ∙ ap (λ (z : List RegionDecl). region_kind z) same_regions in
-    let lk : kinds_in lock_map ≡ lock_kind locks =
-    same_kinds (kinds_in lock_map) (lock_kind locks_now) has_locks.has ∙ ap (λ (z : List Lock). lock_kind z) same_locks in
-    let f : found ≡ found_with class header marks (region_kind regions) (lock_kind locks) codes =
-    found_is ∙ ap (λ (k : Kinds). found_with class header marks k (kinds_in lock_map) codes_now) rk
-    ∙ ap (λ (k : Kinds). found_with class header marks (region_kind regions) k codes_now) lk
-    ∙ ap (λ (z : List (Option ScrubCode)). found_with class header marks (region_kind regions) (lock_kind locks) z) same_codes in
-    let a : assumptions ≡ assumptions_of (lock_kind locks) class.name.text header codes =
-    assumptions_is ∙ ap (λ (k : Kinds). assumptions_of k class.name.text header codes_now) lk
-    ∙ ap (λ (z : List (Option ScrubCode)). assumptions_of (lock_kind locks) class.name.text header z) same_codes in
-    together class regions name class.name.text implements (names_of class.implements) fields (field_faces class) members (member_faces class) found
-    (found_with class header marks (region_kind regions) (lock_kind locks) codes) assumptions (assumptions_of (lock_kind locks) class.name.text header codes)
-    name_is implements_is fields_is members_is f a
+    → found ≡ found_in found_nothing (units_of class header marks rk lk codes) → assumptions ≡ assumptions_of (class_facts class.name.text rk lk) header codes
+    → record {
+      kind = class.kind;
+      name = name;
+      implements = implements;
+      fields = fields;
+      members = members;
+      regions = regions;
+      standing = found.standing;
+      aside = found.aside;
+      assumptions = assumptions;
+      vouched = found.vouched;
+    } ≡ face_with class header marks regions rk lk codes
+face_is class header marks regions rk lk codes name implements fields members found assumptions n im fs ms fd asm =
+    let f = fd ∙ found_all (units_of class header marks rk lk codes) in
+    λ i. record {
+      kind = class.kind;
+      name = n i;
+      implements = im i;
+      fields = fs i;
+      members = ms i;
+      regions = regions;
+      standing = (f i).standing;
+      aside = (f i).aside;
+      assumptions = asm i;
+      vouched = (f i).vouched;
+    }

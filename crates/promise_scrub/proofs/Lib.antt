@@ -1,8 +1,8 @@
-pub mod Holding
-pub mod Stepping
-pub mod Gathering
-pub mod Coding
+pub mod Differing
 pub mod Facing
+pub mod Gathering
+pub mod Keeping
 pub mod Looking
-pub mod Single
+pub mod Numbering
 pub mod SeenAlike
+pub mod Single

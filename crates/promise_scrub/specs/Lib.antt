@@ -1,8 +1,9 @@
 pub mod Alike
-pub mod Judging
-pub mod Locks
+pub mod Counted
+pub mod Differ
+pub mod Found
 pub mod Members
-pub mod Regions
+pub mod Steps
 pub mod Surfaces
 pub mod Texts
-pub mod Units
+pub mod Verdicts

@@ -1,33 +1,41 @@
--- The promises of one member: its own annotations in written order, then the scoped promises of its
--- class that are for it.
-use Rattle.std.specs.Prelude.{ℕ, true, false, List, [], ◌∷◌, Option, Some, None, fold, if◌then◌else◌}
+-- The annotations of a unit, with what their places and contents say.
+use Rattle.std.specs.Prelude.{ℕ, true, false, Bool, List, [], ◌∷◌, ◌++◌, Option, Some, None, map, if◌then◌else◌}
 use Rattle.std.specs.List.{flat_map}
 use Rattle.java_tree.specs.declared.member.MemberTree.{MemberTree}
+use Rattle.java_tree.specs.declared.member.MemberTree.TheVariants as member
 use Rattle.desk_base.specs.declared.key.PromiseName.{PromiseName}
 use Rattle.desk_base.specs.declared.key.PromiseName.TheVariants as kind
+use Rattle.class_faces.specs.Faces.{is_static}
 use Rattle.promise_grammar.specs.Kind.{name_of}
 use Rattle.promise_grammar.specs.declared.scope.ScopeContent.{ScopeContent}
 use Rattle.promise_grammar.specs.declared.tree.PromiseTree.{PromiseTree, out-PromiseTree}
 use Rattle.promise_grammar.specs.declared.tree.PromiseTree.TheOpen.{PromiseTree-F}
 use Rattle.promise_marks.specs.declared.mark.Mark.{Mark}
-use Rattle.scrub_rules.specs.declared.code.ScrubCode.{ScrubCode}
-use Rattle.scrub_rules.specs.declared.code.ScrubCode.TheVariants as scrub
+use Rattle.result_records.specs.declared.code.FindingCode.{FindingCode}
+use Rattle.result_records.specs.declared.code.FindingCode.TheVariants as scrub
 use Rattle.scrub_rules.specs.declared.place.Site.{Site}
-use Rattle.scrub_rules.specs.Detail.{param_name, flat}
-use Rattle.scrub_rules.specs.Place.{first_code, site_of}
+use Rattle.scrub_rules.specs.Facts.{Facts}
+use Rattle.scrub_rules.specs.Offers.{offers_of, param_name, flat}
+use Rattle.scrub_rules.specs.Place.{first_code, place_code, site_of}
 use Rattle.scrub_rules.specs.Scope.{selects}
-use Rattle.promise_scrub.specs.Judging.{Facts, judged}
-use Rattle.promise_scrub.specs.Units.{put_aside, no_promises}
-use Rattle.promise_scrub.specs.declared.unit.Unit.{Unit as Target}
+use Rattle.promise_scrub.specs.Verdicts.{Content, Bad, Gives, Annotation}
 use Rattle.promise_scrub.specs.declared.member.Scoped.{Scoped}
 
-abbrev pub judge_tree : Facts → MemberTree → Target → Option ℕ → PromiseName → Option PromiseTree → Target
-judge_tree at m u param name None = put_aside at.key name scrub.BadContent u
-judge_tree at m u param name (Some tree) = judged at (site_of m param) (param_name m param) false name tree u
+-- what an annotation with this code says at a site
+abbrev pub content_by : Facts → Site → List ℕ → Option FindingCode → Option PromiseTree → Content
+content_by at site param (Some code) tree = Bad code
+content_by at site param None None = Bad scrub.BadContent
+content_by at site param None (Some tree) = Gives tree (offers_of at site param (out-PromiseTree tree))
+
+abbrev pub annotation_by : Facts → Site → List ℕ → Bool → PromiseName → Option FindingCode → Option PromiseTree → Annotation
+annotation_by at site param spread name code tree = record { spread = spread; name = name; content = content_by at site param code tree }
+
+-- ---- members
 
 -- a written annotation
-abbrev pub judge_mark : Facts → MemberTree → Target → Mark → Target
-judge_mark at m u mark = judge_tree at m u mark.param (name_of mark.kind) mark.tree
+abbrev pub written : Facts → MemberTree → Mark → Annotation
+written at m mark =
+    annotation_by at (site_of m mark.param) (param_name m mark.param) false (name_of mark.kind) (first_code (site_of m mark.param) mark.tree) mark.tree
 
 -- the kind of a content
 abbrev pub tree_name : PromiseTree-F PromiseTree → PromiseName
@@ -44,15 +52,25 @@ tree_name (PromiseTree-F.Assume inner member) = kind.Assume
 tree_name (PromiseTree-F.Vouch text) = kind.Vouch
 
 -- a scoped promise of the class, where it is for the member
-abbrev pub judge_spread : Facts → MemberTree → Target → Scoped → Target
-judge_spread at m u s =
-    if selects s.scope m then judged at (site_of m None) [] true (tree_name (out-PromiseTree s.inner)) s.inner u else u
+abbrev pub spread_to : Facts → MemberTree → Scoped → List Annotation
+spread_to at m s =
+    if selects s.scope m then annotation_by at (site_of m None) [] true (tree_name (out-PromiseTree s.inner))
+    (place_code (site_of m None) (out-PromiseTree s.inner)) (Some s.inner) ∷ [] else []
 
--- The promises of a member: the written ones first, then those that are spread to it.
-abbrev pub promises_of : Facts → MemberTree → List Mark → List Scoped → Target
-promises_of at m marks scoped = fold (judge_spread at m) (fold (judge_mark at m) no_promises marks) scoped
+-- The annotations of a member: the written ones first, then those that are spread to it.
+abbrev pub member_annotations : Facts → MemberTree → List Mark → List Scoped → List Annotation
+member_annotations at m marks scoped = map (written at m) marks ++ flat_map (spread_to at m) scoped
 
--- What a header's annotation spreads: the promise in it and what it is for, where it stands.
+-- ---- the header
+
+-- Its annotations, by their codes after regions and locks were judged.
+abbrev pub header_annotations : Facts → Site → List Mark → List (Option FindingCode) → List Annotation
+header_annotations at site [] codes = []
+header_annotations at site (m ∷ ms) [] = []
+header_annotations at site (m ∷ ms) (c ∷ cs) =
+    annotation_by at site [] false (name_of m.kind) c m.tree ∷ header_annotations at site ms cs
+
+-- what one of them spreads: the promise in it and what it is for, where it stands
 abbrev pub scoped_with : ScopeContent → Option PromiseTree → List Scoped
 scoped_with scope None = []
 scoped_with scope (Some inner) = record { inner = inner; scope = scope } ∷ []
@@ -61,10 +79,14 @@ abbrev pub scoped_in : PromiseTree-F PromiseTree → List Scoped
 scoped_in (PromiseTree-F.Promise inner scope) = scoped_with scope (flat inner)
 scoped_in _ = []
 
-abbrev pub scoped_by : Option ScrubCode → Option PromiseTree → List Scoped
+abbrev pub scoped_by : Option FindingCode → Option PromiseTree → List Scoped
 scoped_by None (Some tree) = scoped_in (out-PromiseTree tree)
 scoped_by _ _ = []
 
 -- the scoped promises of a header that stand, in written order
 abbrev pub scoped_of : Site → List Mark → List Scoped
 scoped_of site marks = flat_map (λ mark. scoped_by (first_code site mark.tree) mark.tree) marks
+
+abbrev pub field_static : MemberTree → Bool
+field_static (member.Field f) = is_static f.mods
+field_static _ = false

@@ -1,76 +1,42 @@
 -- Surface: what a class says to the others, from its tree alone.
 use Rattle.std.specs.Prelude.{◌≡◌, ℕ, Bool, true, false, List, [], ◌∷◌, ◌++◌, Option, Some, None, map, codes, if◌then◌else◌}
 use Rattle.std.specs.List.{flat_map}
-use Rattle.std.specs.Str.{bytes_eq}
 use Rattle.java_tree.specs.declared.file.ClassTree.{ClassTree}
 use Rattle.java_tree.specs.declared.member.MemberTree.{MemberTree}
 use Rattle.java_tree.specs.declared.token.Lexeme.{Lexeme}
-use Rattle.desk_base.specs.declared.key.PromiseName.{PromiseName}
-use Rattle.promise_grammar.specs.Kind.{name_of}
+use Rattle.desk_base.specs.declared.key.PromiseKey.{PromiseKey}
 use Rattle.promise_grammar.specs.declared.member.MemberContent.{MemberContent}
 use Rattle.promise_grammar.specs.declared.member.MemberName.{MemberName}
 use Rattle.promise_grammar.specs.declared.member.MemberName.TheVariants as member_of
 use Rattle.promise_grammar.specs.declared.tree.PromiseTree.{PromiseTree, out-PromiseTree}
 use Rattle.promise_grammar.specs.declared.tree.PromiseTree.TheOpen.{PromiseTree-F}
 use Rattle.class_faces.specs.Keys.{text_of, member_keys, counted}
-use Rattle.class_faces.specs.declared.face.FieldFace.{FieldFace}
 use Rattle.class_faces.specs.Faces.{field_faces, member_faces, named_params}
 use Rattle.promise_marks.specs.declared.mark.Mark.{Mark}
 use Rattle.promise_marks.specs.Given.{by_header, by_member}
 use Rattle.promise_marks.specs.Marks.{AreMarks}
 use Rattle.region_tree.specs.declared.decl.RegionDecl.{RegionDecl}
-use Rattle.scrub_rules.specs.declared.code.ScrubCode.{ScrubCode}
-use Rattle.scrub_rules.specs.declared.detail.Claim.{Claim}
+use Rattle.result_records.specs.declared.code.FindingCode.{FindingCode}
+use Rattle.scrub_rules.specs.declared.offer.Offer.{Offer}
 use Rattle.scrub_rules.specs.declared.place.SiteKind.{SiteKind}
 use Rattle.scrub_rules.specs.declared.place.SiteKind.TheVariants as at
+use Rattle.scrub_rules.specs.declared.place.TypeSort.TheVariants as sort
 use Rattle.scrub_rules.specs.declared.place.Site.{Site}
-use Rattle.scrub_rules.specs.Detail.{claims_of, flat}
+use Rattle.scrub_rules.specs.Facts.{Facts}
+use Rattle.scrub_rules.specs.Offers.{offers_of, flat}
 use Rattle.scrub_rules.specs.Place.{header_site}
-use Rattle.std.specs.Option.{option_or}
-use Rattle.std.specs.BTreeMap.{BTreeMap}
-use Rattle.scrub_rules.specs.Target.{Kinds, kinds_in}
-use Rattle.promise_scrub.specs.Judging.{Facts, field_static, is_vouch}
-use Rattle.promise_scrub.specs.Locks.{LockSteps, region_kind, fields_by}
-use Rattle.promise_scrub.specs.Members.{promises_of, scoped_of}
-use Rattle.promise_scrub.specs.Regions.{Scrubs, decls_of, places_from, first_codes}
-use Rattle.promise_scrub.specs.Units.{put_aside, put_claims, no_promises}
-use Rattle.promise_scrub.specs.declared.found.Found.{Found}
+use Rattle.scrub_rules.specs.Target.{Kinds}
+use Rattle.header_scrub.specs.Fields.{fields_by}
+use Rattle.header_scrub.specs.Header.{Header}
+use Rattle.header_scrub.specs.Kinds.{region_kind, lock_kind}
+use Rattle.header_scrub.specs.Locks.{locks_in}
+use Rattle.promise_scrub.specs.Members.{field_static, header_annotations, member_annotations, scoped_of}
+use Rattle.promise_scrub.specs.Verdicts.{Annotation, asides, judged, standings, vouched}
 use Rattle.promise_scrub.specs.declared.member.Scoped.{Scoped}
-use Rattle.promise_scrub.specs.declared.lock.Lock.{Lock}
-use Rattle.promise_scrub.specs.declared.unit.Unit.{Unit as Target}
+use Rattle.promise_scrub.specs.declared.surface.Aside.{Aside}
 use Rattle.promise_scrub.specs.declared.surface.Assumption.{Assumption}
+use Rattle.promise_scrub.specs.declared.surface.Standing.{Standing}
 use Rattle.promise_scrub.specs.declared.surface.Surface.{Surface as Face}
-
--- whether the lock of a name is static, where there is one: the first of that name
-abbrev pub lock_kind : List Lock → Kinds
-lock_kind [] name = None
-lock_kind (l ∷ ls) name = if bytes_eq l.name name then Some l.is_static else lock_kind ls name
-
--- the map has these kinds
-pub record HasKinds (known : BTreeMap (List ℕ) Bool) (kinds : Kinds) : Type 0 where
-  pub has : (name : List ℕ) → kinds_in known name ≡ kinds name
-
--- a name that was not there has a kind now, and all others are as before
-pub record PutsKind (old new : BTreeMap (List ℕ) Bool) (name : List ℕ) (is_static : Bool) : Type 0 where
-  pub puts : (q : List ℕ) → kinds_in new q ≡ option_or (kinds_in old q) (if bytes_eq name q then Some is_static else None)
-
--- ---- the header
-
-abbrev pub name_of_mark : Mark → PromiseName
-name_of_mark m = name_of m.kind
-
--- an annotation of the header, by its code after regions and locks were judged
-abbrev pub header_by : List ℕ → List ℕ → Kinds → Site → PromiseName → Option PromiseTree → Option ScrubCode → Target → Target
-header_by key class locks site name tree (Some code) u = put_aside key name code u
-header_by key class locks site name None None u = u
-header_by key class locks site name (Some tree) None u =
-    put_claims key false tree (is_vouch (out-PromiseTree tree)) (claims_of locks class site.kind [] (out-PromiseTree tree)) u
-
-abbrev pub header_from : List ℕ → Kinds → Site → List Mark → List (Option ScrubCode) → Target → Target
-header_from class locks site [] codes u = u
-header_from class locks site (m ∷ ms) [] u = u
-header_from class locks site (m ∷ ms) (c ∷ cs) u =
-    header_from class locks site ms cs (header_by (text_of class) class locks site (name_of m.kind) m.tree c u)
 
 -- ---- assumptions
 
@@ -89,38 +55,66 @@ member_text m = counted (member_name m.name) m.count
 abbrev pub assumed_target : MemberContent → List ℕ
 assumed_target m = m.class ++ codes "." ++ member_text m
 
+abbrev pub member_key : MemberContent → List ℕ
+member_key m = text_of (member_text m)
+
+abbrev pub assumed_key : MemberContent → Offer → PromiseKey
+assumed_key m offer = record { target = text_of (assumed_target m); name = offer.name; detail = offer.detail }
+
 -- an assumed promise, under the key that it has at the member
-abbrev pub assumption_with : MemberContent → Claim → Option PromiseTree → List Assumption
-assumption_with m claim None = []
-assumption_with m claim (Some tree) = record {
+abbrev pub assumption_with : MemberContent → Offer → Option PromiseTree → List Assumption
+assumption_with m offer None = []
+assumption_with m offer (Some tree) = record {
   class = m.class;
-  member = text_of (member_text m);
-  key = record { target = text_of (assumed_target m); name = claim.name; detail = text_of claim.detail };
+  member = member_key m;
+  key = assumed_key m offer;
   tree = tree;
 } ∷ []
 
-abbrev pub assumptions_for : Kinds → List ℕ → MemberContent → PromiseTree → List Assumption
-assumptions_for locks class m inner =
-    flat_map (λ claim. assumption_with m claim (flat inner)) (claims_of locks class (assumed_site m.name) [] (out-PromiseTree inner))
+-- where the member is, as far as the promise that is assumed tells
+abbrev pub assumed_at : MemberName → Site
+assumed_at name = record { kind = assumed_site name; sort = sort.Nothing; has_this = true }
 
-abbrev pub assumptions_in : Kinds → List ℕ → PromiseTree-F PromiseTree → List Assumption
-assumptions_in locks class (PromiseTree-F.Assume inner member) = assumptions_for locks class member inner
-assumptions_in locks class _ = []
+abbrev pub assumptions_for : Facts → MemberContent → PromiseTree → List Assumption
+assumptions_for at m inner =
+    flat_map (λ offer. assumption_with m offer (flat inner)) (offers_of at (assumed_at m.name) [] (out-PromiseTree inner))
 
-abbrev pub assumptions_by : Kinds → List ℕ → Option ScrubCode → Option PromiseTree → List Assumption
-assumptions_by locks class None (Some tree) = assumptions_in locks class (out-PromiseTree tree)
-assumptions_by locks class _ _ = []
+abbrev pub assumptions_in : Facts → PromiseTree-F PromiseTree → List Assumption
+assumptions_in at (PromiseTree-F.Assume inner member) = assumptions_for at member inner
+assumptions_in at _ = []
 
-abbrev pub assumptions_of : Kinds → List ℕ → List Mark → List (Option ScrubCode) → List Assumption
-assumptions_of locks class [] codes = []
-assumptions_of locks class (m ∷ ms) [] = []
-assumptions_of locks class (m ∷ ms) (c ∷ cs) = assumptions_by locks class c m.tree ++ assumptions_of locks class ms cs
+abbrev pub assumptions_by : Facts → Option FindingCode → Option PromiseTree → List Assumption
+assumptions_by at None (Some tree) = assumptions_in at (out-PromiseTree tree)
+assumptions_by at _ _ = []
 
--- ---- members
+-- the assumptions of a header that stand, in written order
+abbrev pub assumptions_of : Facts → List Mark → List (Option FindingCode) → List Assumption
+assumptions_of at [] codes = []
+assumptions_of at (m ∷ ms) [] = []
+assumptions_of at (m ∷ ms) (c ∷ cs) = assumptions_by at c m.tree ++ assumptions_of at ms cs
 
-abbrev pub member_facts : List ℕ → List ℕ → Kinds → Kinds → MemberTree → Facts
-member_facts key class regions locks m = record {
-  key = key;
+-- ---- units
+
+-- A unit: its key and its annotations, the written ones first, then those that are spread to it.
+pub record UnitAnnotations : Type 0 where
+  pub key : List ℕ
+  pub annotations : List Annotation
+
+abbrev pub standing_at : UnitAnnotations → List Standing
+standing_at u = standings u.key (judged u.annotations)
+
+abbrev pub aside_at : UnitAnnotations → List Aside
+aside_at u = asides u.key 0 (judged u.annotations)
+
+abbrev pub vouched_at : UnitAnnotations → List (List ℕ)
+vouched_at u = if vouched (judged u.annotations) then u.key ∷ [] else []
+
+-- what promises of the class and of its members are judged in
+abbrev pub class_facts : List ℕ → Kinds → Kinds → Facts
+class_facts class regions locks = record { class = class; regions = regions; locks = locks; field_static = false; params = [] }
+
+abbrev pub member_facts : List ℕ → Kinds → Kinds → MemberTree → Facts
+member_facts class regions locks m = record {
   class = class;
   regions = regions;
   locks = locks;
@@ -134,72 +128,65 @@ AreMemberMarks [] [] = Unit {0}
 AreMemberMarks (m ∷ ms) (marks ∷ rest) = AreMarks (by_member m) marks × AreMemberMarks ms rest
 AreMemberMarks _ _ = ⊥
 
--- what was found in units, one after another
-abbrev pub found_nothing : Found
-found_nothing = record { standing = []; aside = []; vouched = [] }
+-- the members, each under its key with its own annotations and what is spread to it
+abbrev pub member_units : List ℕ → Kinds → Kinds → List Scoped → List (List ℕ) → List (List Mark) → List MemberTree → List UnitAnnotations
+member_units class regions locks scoped keys marks [] = []
+member_units class regions locks scoped [] marks (m ∷ ms) = []
+member_units class regions locks scoped (k ∷ ks) [] (m ∷ ms) = []
+member_units class regions locks scoped (k ∷ ks) (a ∷ rest) (m ∷ ms) =
+    record { key = k; annotations = member_annotations (member_facts class regions locks m) m a scoped }
+    ∷ member_units class regions locks scoped ks rest ms
 
-abbrev pub vouched_more : Bool → List ℕ → List (List ℕ) → List (List ℕ)
-vouched_more true key vouched = vouched ++ key ∷ []
-vouched_more false key vouched = vouched
-
-abbrev pub found_more : List ℕ → Target → Found → Found
-found_more key u f = record {
-  standing = f.standing ++ u.standing;
-  aside = f.aside ++ u.aside;
-  vouched = vouched_more u.vouched key f.vouched;
+abbrev pub header_unit_in : ClassTree → Facts → List Mark → List (Option FindingCode) → UnitAnnotations
+header_unit_in class at header codes = record {
+  key = text_of class.name.text;
+  annotations = header_annotations at (header_site class.kind) header codes;
 }
 
--- The members' promises, each under its key, with its own annotations and what is spread to it.
-abbrev pub found_from : List ℕ → Kinds → Kinds → List Scoped → List (List ℕ) → List (List Mark) → List MemberTree → Found → Found
-found_from class regions locks scoped keys marks [] f = f
-found_from class regions locks scoped [] marks (m ∷ ms) f = f
-found_from class regions locks scoped (k ∷ ks) [] (m ∷ ms) f = f
-found_from class regions locks scoped (k ∷ ks) (a ∷ rest) (m ∷ ms) f =
-    found_from class regions locks scoped ks rest ms (found_more k (promises_of (member_facts k class regions locks m) m a scoped) f)
+-- the units of a class: the header, then the members in written order
+abbrev pub units_of : ClassTree → List Mark → List (List Mark) → Kinds → Kinds → List (Option FindingCode) → List UnitAnnotations
+units_of class header members regions locks codes =
+    header_unit_in class (class_facts class.name.text regions locks) header codes
+    ∷ member_units class.name.text regions locks (scoped_of (header_site class.kind) header) (member_keys class) members class.members
+
+-- ---- the surface
 
 abbrev pub names_of : List Lexeme → List (List ℕ)
 names_of words = map (λ w. w.text) words
 
--- what is found in the header and then in the members
-abbrev pub found_with : ClassTree → List Mark → List (List Mark) → Kinds → Kinds → List (Option ScrubCode) → Found
-found_with class header members regions locks codes =
-    found_from class.name.text regions locks (scoped_of (header_site class.kind) header) (member_keys class) members class.members
-    (found_more (text_of class.name.text) (header_from class.name.text locks (header_site class.kind) header codes no_promises) found_nothing)
-
-abbrev pub face_by : ClassTree → List RegionDecl → Found → List Assumption → Face
-face_by class regions found assumptions = record {
+-- the surface of a class with these regions, units and assumptions
+abbrev pub face_by : ClassTree → List RegionDecl → List UnitAnnotations → List Assumption → Face
+face_by class regions units assumptions = record {
   kind = class.kind;
   name = class.name.text;
   implements = names_of class.implements;
   fields = field_faces class;
   members = member_faces class;
   regions = regions;
-  standing = found.standing;
-  aside = found.aside;
+  standing = flat_map standing_at units;
+  aside = flat_map aside_at units;
   assumptions = assumptions;
-  vouched = found.vouched;
+  vouched = flat_map vouched_at units;
 }
 
--- the surface of a class, by its annotations, the regions and locks that stand, and the header's codes
-abbrev pub face_with : ClassTree → List Mark → List (List Mark) → List RegionDecl → Kinds → Kinds → List (Option ScrubCode) → Face
+-- by its annotations, the regions and locks that stand, and the header's codes
+abbrev pub face_with : ClassTree → List Mark → List (List Mark) → List RegionDecl → Kinds → Kinds → List (Option FindingCode) → Face
 face_with class header members regions region_kinds lock_kinds codes =
-    face_by class regions (found_with class header members region_kinds lock_kinds codes) (assumptions_of lock_kinds class.name.text header codes)
+    face_by class regions (units_of class header members region_kinds lock_kinds codes)
+    (assumptions_of (class_facts class.name.text region_kinds lock_kinds) header codes)
 
--- the regions and locks of a header that stand, and the codes of its annotations
-abbrev pub HeaderScrubbed : Site → List FieldFace → List Mark → List RegionDecl → List Lock → List (Option ScrubCode) → Type 0
-HeaderScrubbed site fields header regions locks codes =
-    (between : List (Option ScrubCode)) × Scrubs (decls_of site header) (places_from site 0 header) (first_codes site header) regions between
-    × LockSteps regions (region_kind regions) (fields_by fields) header between [] locks codes
+-- the locks that stand, of a class whose header has these annotations and codes
+abbrev pub class_locks : ClassTree → List Mark → List (Option FindingCode) → Kinds
+class_locks class header codes = lock_kind (locks_in (fields_by (field_faces class)) header codes)
 
--- Surface: the annotations are read from the class's tree, the regions are scrubbed, then the locks, and
--- then the rest.
+-- Surface: the annotations are read from the class's tree, those of the header are scrubbed, and the
+-- promises of all units are judged.
 pub record Surface (class : ClassTree) (face : Face) : Type 0 where
   pub header : List Mark
   pub header_read : AreMarks (by_header class) header
   pub members : List (List Mark)
   pub members_read : AreMemberMarks class.members members
   pub regions : List RegionDecl
-  pub locks : List Lock
-  pub codes : List (Option ScrubCode)
-  pub scrubbed : HeaderScrubbed (header_site class.kind) (field_faces class) header regions locks codes
-  pub is : face ≡ face_with class header members regions (region_kind regions) (lock_kind locks) codes
+  pub codes : List (Option FindingCode)
+  pub scrubbed : Header (header_site class.kind) (field_faces class) header regions codes
+  pub is : face ≡ face_with class header members regions (region_kind regions) (class_locks class header codes) codes

@@ -1,19 +1,19 @@
 ghost use Rattle.std.specs.Prelude.{◌≡◌, ◌++◌, IfOk, OnOk};
 ghost use Rattle.std.specs.List.{flat_map};
 ghost use Rattle.promise_grammar.specs.declared.tree.PromiseTree.{out-PromiseTree};
-ghost use Rattle.scrub_rules.specs.Detail.{flat};
-ghost use Rattle.scrub_rules.specs.Target.{kinds_in};
+ghost use Rattle.scrub_rules.specs.Facts.{facts_of};
+ghost use Rattle.scrub_rules.specs.Offers.{flat};
 ghost use Rattle.promise_scrub.specs.Surfaces as spec;
 
 use crate::surface::Assumption;
 use class_faces::text_of;
-use desk_base::{Bytes, Items, Name, OutOfMemory, PromiseKey};
+use desk_base::{Bytes, Items, OutOfMemory, PromiseKey, Text};
 use itoa::Buffer;
-use promise_grammar::{MemberContent, MemberName, PromiseTree};
+use promise_grammar::{MemberContent, MemberName, PromiseTree, Shared};
 use promise_marks::Mark;
-use scrub_rules::{Claim, ScrubCode, SiteKind, claims_of, copied};
+use result_records::FindingCode;
+use scrub_rules::{Context, Offer, Site, SiteKind, TypeSort, copied, offers_of};
 use std::alloc::Global;
-use std::collections::BTreeMap;
 
 fn member_name(name: &MemberName) -> &[u8]
     ensures { result.now ≡ spec.member_name name.now }
@@ -53,28 +53,56 @@ fn assumed_target(alloc: Global, member: &MemberContent) -> Result<Bytes, OutOfM
     Ok(target)
 }
 
+fn assumed_at(name: &MemberName) -> Site
+    ensures { result ≡ spec.assumed_at name.now }
+{
+    Site {
+        kind: assumed_site(name),
+        sort: TypeSort::Nothing,
+        has_this: true,
+    }
+}
+
+fn assumed_key(
+    alloc: Global,
+    member: &MemberContent,
+    offer: &Offer,
+) -> Result<PromiseKey, OutOfMemory>
+    ensures { IfOk result (λ key. key ≡ spec.assumed_key member.now offer.now) }
+{
+    let target = assumed_target(alloc, member)?;
+    Ok(PromiseKey {
+        target: text_of(alloc, target.as_slice())?,
+        name: offer.name,
+        detail: offer.detail.clone()?,
+    })
+}
+
+fn member_key(alloc: Global, member: &MemberContent) -> Result<Text, OutOfMemory>
+    ensures { IfOk result (λ text. text ≡ spec.member_key member.now) }
+{
+    let text = member_text(alloc, member)?;
+    text_of(alloc, text.as_slice())
+}
+
 // Puts an assumed promise, under the key that it has at the member.
 fn put_assumption(
     alloc: Global,
     out: &mut Items<Assumption>,
     member: &MemberContent,
-    claim: &Claim,
+    offer: &Offer,
     inner: &PromiseTree,
 ) -> Result<(), OutOfMemory>
-    ensures { OnOk result (out.new ≡ out.old ++ spec.assumption_with member.now claim.now (flat inner.now)) }
+    ensures { OnOk result (out.new ≡ out.old ++ spec.assumption_with member.now offer.now (flat inner.now)) }
 {
     match copied(alloc, inner)? {
         None => Ok(()),
         Some(tree) => {
-            let key = PromiseKey {
-                target: text_of(alloc, assumed_target(alloc, member)?.as_slice())?,
-                name: claim.name,
-                detail: text_of(alloc, claim.detail.as_slice())?,
-            };
+            let tree = Shared::new(alloc, tree)?;
             out.push(Assumption {
                 class: member.class.clone()?,
-                member: text_of(alloc, member_text(alloc, member)?.as_slice())?,
-                key,
+                member: member_key(alloc, member)?,
+                key: assumed_key(alloc, member, offer)?,
                 tree,
             })?;
             Ok(())
@@ -82,17 +110,17 @@ fn put_assumption(
     }
 }
 
-fn put_claims(
+fn put_offers(
     alloc: Global,
     out: &mut Items<Assumption>,
     member: &MemberContent,
-    claims: &[Claim],
+    offers: &[Offer],
     inner: &PromiseTree,
 ) -> Result<(), OutOfMemory>
-    ensures { OnOk result (out.new ≡ out.old ++ flat_map (λ claim. spec.assumption_with member.now claim (flat inner.now)) claims.now) }
+    ensures { OnOk result (out.new ≡ out.old ++ flat_map (λ offer. spec.assumption_with member.now offer (flat inner.now)) offers.now) }
 {
-    for claim in claims {
-        put_assumption(alloc, out, member, claim, inner)?;
+    for offer in offers {
+        put_assumption(alloc, out, member, offer, inner)?;
     }
     Ok(())
 }
@@ -100,17 +128,16 @@ fn put_claims(
 fn put_tree(
     alloc: Global,
     out: &mut Items<Assumption>,
-    locks: &BTreeMap<Name, bool>,
-    class: &Name,
+    at: &Context<'_>,
     tree: &PromiseTree,
 ) -> Result<(), OutOfMemory>
-    ensures { OnOk result (out.new ≡ out.old ++ spec.assumptions_in (kinds_in locks.now) class.now (out-PromiseTree tree.now)) }
+    ensures { OnOk result (out.new ≡ out.old ++ spec.assumptions_in (facts_of at.now) (out-PromiseTree tree.now)) }
 {
     match tree {
         PromiseTree::Assume(inner, member) => {
-            let site = assumed_site(&member.name);
-            let claims = claims_of(alloc, locks, class, site, &[], inner.get())?;
-            put_claims(alloc, out, member, claims.as_slice(), inner.get())
+            let site = assumed_at(&member.name);
+            let offers = offers_of(alloc, at, site, &[], inner.get())?;
+            put_offers(alloc, out, member, offers.as_slice(), inner.get())
         }
         _ => Ok(()),
     }
@@ -119,15 +146,14 @@ fn put_tree(
 fn put_mark(
     alloc: Global,
     out: &mut Items<Assumption>,
-    locks: &BTreeMap<Name, bool>,
-    class: &Name,
-    code: Option<ScrubCode>,
-    tree: &Option<PromiseTree>,
+    at: &Context<'_>,
+    code: Option<FindingCode>,
+    tree: &Option<Shared<PromiseTree>>,
 ) -> Result<(), OutOfMemory>
-    ensures { OnOk result (out.new ≡ out.old ++ spec.assumptions_by (kinds_in locks.now) class.now code tree.now) }
+    ensures { OnOk result (out.new ≡ out.old ++ spec.assumptions_by (facts_of at.now) code tree.now) }
 {
     match (code, tree) {
-        (None, Some(tree)) => put_tree(alloc, out, locks, class, tree),
+        (None, Some(tree)) => put_tree(alloc, out, at, tree.get()),
         _ => Ok(()),
     }
 }
@@ -135,19 +161,18 @@ fn put_mark(
 /// The assumptions of a header that stand, in written order.
 pub(crate) fn assumptions_of(
     alloc: Global,
-    locks: &BTreeMap<Name, bool>,
-    class: &Name,
+    at: &Context<'_>,
     marks: &[Mark],
-    codes: &[Option<ScrubCode>],
+    codes: &[Option<FindingCode>],
 ) -> Result<Items<Assumption>, OutOfMemory>
-    ensures { IfOk result (λ out. out ≡ spec.assumptions_of (kinds_in locks.now) class.now marks.now codes.now) }
+    ensures { IfOk result (λ out. out ≡ spec.assumptions_of (facts_of at.now) marks.now codes.now) }
 {
     let mut out = Items::new(alloc);
     for (i, mark) in marks.iter().enumerate() {
         if i >= codes.len() {
             return Ok(out);
         }
-        put_mark(alloc, &mut out, locks, class, codes[i], &mark.tree)?;
+        put_mark(alloc, &mut out, at, codes[i], &mark.tree)?;
     }
     Ok(out)
 }

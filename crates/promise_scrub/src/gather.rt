@@ -1,13 +1,14 @@
-ghost use Rattle.std.specs.Prelude.{◌≡◌, IfOk, OnOk};
+ghost use Rattle.std.specs.Prelude.{◌≡◌, [], false, fold, IfOk, OnOk};
+ghost use Rattle.scrub_rules.specs.Facts.{facts_of};
 ghost use Rattle.scrub_rules.specs.Target.{kinds_in};
-ghost use Rattle.class_faces.specs.Keys.{text_of};
-ghost use Rattle.promise_scrub.specs.Judging.{field_static};
-ghost use Rattle.promise_scrub.specs.Members.{promises_of};
+ghost use Rattle.promise_scrub.specs.Found as units;
+ghost use Rattle.promise_scrub.specs.Members.{field_static, header_annotations, member_annotations};
+ghost use Rattle.promise_scrub.specs.Steps.{kept_of, put_annotation as put_one};
 ghost use Rattle.promise_scrub.specs.Surfaces as spec;
+ghost use Rattle.promise_scrub.specs.Verdicts.{judged};
 
-use crate::context::Context;
 use crate::found::Found;
-use crate::judge::is_vouch;
+use crate::judge::{Place, put_annotation};
 use crate::member::Scoped;
 use crate::spread::promises_of;
 use crate::unit::Unit;
@@ -15,55 +16,60 @@ use class_faces::{is_static, named_params};
 use desk_base::{Items, Name, OutOfMemory, Text};
 use java_tree::{Lexeme, MemberTree};
 use promise_marks::{Mark, member_marks};
-use scrub_rules::{ScrubCode, Site, claims_of};
+use result_records::FindingCode;
+use scrub_rules::{Context, Site};
 use std::alloc::Global;
 use std::collections::BTreeMap;
 
-// Puts one annotation of the header to its promises, by its code after regions and locks were judged.
 fn put_header(
     alloc: Global,
-    key: &Text,
-    class: &Name,
-    locks: &BTreeMap<Name, bool>,
-    site: Site,
-    mark: &Mark,
-    code: Option<ScrubCode>,
-    unit: &mut Unit,
-) -> Result<(), OutOfMemory>
-    ensures { OnOk result (unit.new ≡ spec.header_by key.now class.now (kinds_in locks.now) site (spec.name_of_mark mark.now) mark.now.tree code unit.old) }
-{
-    let name = mark.kind.name();
-    match (code, &mark.tree) {
-        (Some(code), _) => unit.put_aside(alloc, key, name, code),
-        (None, None) => Ok(()),
-        (None, Some(tree)) => {
-            let claims = claims_of(alloc, locks, class, site.kind, &[], tree)?;
-            unit.put_claims(alloc, key, false, tree, is_vouch(tree), claims.as_slice())
-        }
-    }
-}
-
-/// The promises of the header, by the codes of its annotations.
-pub(crate) fn header_unit(
-    alloc: Global,
-    class: &Name,
-    locks: &BTreeMap<Name, bool>,
-    site: Site,
+    at: &Context<'_>,
+    place: &Place<'_>,
     marks: &[Mark],
-    codes: &[Option<ScrubCode>],
-    key: &Text,
+    codes: &[Option<FindingCode>],
     unit: &mut Unit,
 ) -> Result<(), OutOfMemory>
-    requires { key.now ≡ text_of class.now }
-    ensures { OnOk result (unit.new ≡ spec.header_from class.now (kinds_in locks.now) site marks.now codes.now unit.old) }
+    requires spread { place.now.spread ≡ false }
+    requires param { place.now.param.now ≡ [] }
+    ensures { OnOk result (unit.new ≡ fold (put_one place.now.key.now) unit.old (header_annotations (facts_of at.now) place.now.site marks.now codes.now)) }
 {
     for (i, mark) in marks.iter().enumerate() {
         if i >= codes.len() {
             return Ok(());
         }
-        put_header(alloc, key, class, locks, site, mark, codes[i], unit)?;
+        put_annotation(
+            alloc,
+            at,
+            place,
+            mark.kind.name(),
+            codes[i],
+            &mark.tree,
+            unit,
+        )?;
     }
     Ok(())
+}
+
+/// The promises of the header, by the codes of its annotations.
+pub(crate) fn header_unit(
+    alloc: Global,
+    at: &Context<'_>,
+    key: &Text,
+    site: Site,
+    marks: &[Mark],
+    codes: &[Option<FindingCode>],
+) -> Result<Unit, OutOfMemory>
+    ensures { IfOk result (λ unit. unit ≡ kept_of key.now (judged (header_annotations (facts_of at.now) site marks.now codes.now))) }
+{
+    let place = Place {
+        key,
+        spread: false,
+        site,
+        param: &[],
+    };
+    let mut unit = Unit::new(alloc);
+    put_header(alloc, at, &place, marks, codes, &mut unit)?;
+    Ok(unit)
 }
 
 fn field_static(member: &MemberTree) -> bool
@@ -91,7 +97,7 @@ pub(crate) fn all_marks(
 
 /// Puts what was found in a unit.
 pub(crate) fn put_unit(found: &mut Found, key: &Text, unit: Unit) -> Result<(), OutOfMemory>
-    ensures { OnOk result (found.new ≡ spec.found_more key.now unit found.old) }
+    ensures { OnOk result (found.new ≡ units.found_of key.now unit found.old) }
 {
     found.standing.append(unit.standing)?;
     found.aside.append(unit.aside)?;
@@ -118,22 +124,21 @@ fn put_member(
     member: &MemberTree,
     found: &mut Found,
 ) -> Result<(), OutOfMemory>
-    ensures { OnOk result (found.new ≡ spec.found_more key.now (promises_of (spec.member_facts key.now facts.now.class.now (kinds_in facts.now.regions.now) (kinds_in facts.now.locks.now) member.now) member.now marks.now facts.now.scoped.now) found.old) }
+    ensures { OnOk result (found.new ≡ units.found_more found.old (record { key = key.now; annotations = member_annotations (spec.member_facts facts.now.class.now (kinds_in facts.now.regions.now) (kinds_in facts.now.locks.now) member.now) member.now marks.now facts.now.scoped.now })) }
 {
     let params = named_params(alloc, member)?;
     let at = Context {
-        key,
         class: facts.class,
         regions: facts.regions,
         locks: facts.locks,
         field_static: field_static(member),
         params: params.as_slice(),
     };
-    let unit = promises_of(alloc, &at, member, marks, facts.scoped)?;
+    let unit = promises_of(alloc, &at, key, member, marks, facts.scoped)?;
     put_unit(found, key, unit)
 }
 
-/// Puts the promises of the members, each under its key.
+/// Puts what is found in the members, each under its key.
 pub(crate) fn put_members(
     alloc: Global,
     facts: &ClassFacts<'_>,
@@ -142,7 +147,7 @@ pub(crate) fn put_members(
     members: &[MemberTree],
     found: &mut Found,
 ) -> Result<(), OutOfMemory>
-    ensures { OnOk result (found.new ≡ spec.found_from facts.now.class.now (kinds_in facts.now.regions.now) (kinds_in facts.now.locks.now) facts.now.scoped.now keys.now marks.now members.now found.old) }
+    ensures { OnOk result (found.new ≡ units.found_in found.old (spec.member_units facts.now.class.now (kinds_in facts.now.regions.now) (kinds_in facts.now.locks.now) facts.now.scoped.now keys.now marks.now members.now)) }
 {
     for (i, member) in members.iter().enumerate() {
         if i >= keys.len() || i >= marks.len() {

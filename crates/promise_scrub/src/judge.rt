@@ -1,121 +1,77 @@
-ghost use Rattle.std.specs.Prelude.{◌≡◌, [], IfOk, OnOk};
-ghost use Rattle.promise_grammar.specs.declared.tree.PromiseTree.{out-PromiseTree};
-ghost use Rattle.promise_scrub.specs.Judging as spec;
-ghost use Rattle.promise_scrub.specs.Judging.{facts_of};
+ghost use Rattle.std.specs.Prelude.{◌≡◌, [], true, false, None, Some, IfOk, OnOk};
+ghost use Rattle.scrub_rules.specs.Facts.{facts_of};
+ghost use Rattle.promise_scrub.specs.Members.{annotation_by};
+ghost use Rattle.promise_scrub.specs.Steps as spec;
 
-use crate::claims::claim_text;
-use crate::context::Context;
+use crate::tags::{form_tag, key_tag};
 use crate::texts::Texts;
 use crate::unit::Unit;
-use desk_base::{Bytes, Items, OutOfMemory, PromiseName};
-use promise_grammar::{LockItem, PromiseTree};
-use scrub_rules::{
-    Claim, Lookup, ScrubCode, Site, claims_of, copied_item, effects_code, in_region_code, labelled,
-    least, lock_detail, locks_code, place_code,
-};
+use desk_base::{Items, OutOfMemory, PromiseName, Text};
+use promise_grammar::{PromiseTree, Shared};
+use result_records::FindingCode;
+use scrub_rules::{Context, Offer, Site, least, offers_of};
 use std::alloc::Global;
 
-// A scoped promise gives nothing that the member has itself.
-fn goes(spread: bool, own: &Texts, text: &Bytes) -> bool
-    ensures { result ≡ spec.goes spread own.now text.now }
-{
-    spread && own.has(text)
+/// Where an annotation stands: its unit's key, whether it is spread to it, the site, and the name of
+/// the parameter, which is empty at the unit itself.
+#[derive(Clone, Copy)]
+pub(crate) struct Place<'a> {
+    pub(crate) key: &'a Text,
+    pub(crate) spread: bool,
+    pub(crate) site: Site,
+    pub(crate) param: &'a [u8],
 }
 
-fn copied_claim(claim: &Claim) -> Result<Claim, OutOfMemory>
-    ensures { IfOk result (λ copy. copy ≡ claim.now) }
-{
-    Ok(Claim {
-        name: claim.name,
-        detail: claim.detail.clone()?,
-        tag: claim.tag.clone()?,
-    })
-}
-
-fn kept_claims(
-    alloc: Global,
-    spread: bool,
-    own: &Texts,
-    claims: &[Claim],
-) -> Result<Items<Claim>, OutOfMemory>
-    ensures { IfOk result (λ kept. kept ≡ spec.kept_claims spread own.now claims.now) }
+// The promises but those that the member has itself.
+fn not_among(alloc: Global, own: &Texts, offers: &[Offer]) -> Result<Items<Offer>, OutOfMemory>
+    ensures { IfOk result (λ kept. kept ≡ spec.kept_offers true own.now offers.now) }
 {
     let mut kept = Items::new(alloc);
-    for claim in claims {
-        let text = claim_text(alloc, claim)?;
-        if !goes(spread, own, &text) {
-            kept.push(copied_claim(claim)?)?;
+    for offer in offers {
+        let tag = key_tag(alloc, offer)?;
+        if !own.has(&tag) {
+            kept.push(offer.clone()?)?;
         }
     }
     Ok(kept)
 }
 
-fn kept_items(
-    alloc: Global,
-    at: &Context<'_>,
-    spread: bool,
-    own: &Texts,
-    items: &[LockItem],
-) -> Result<Items<LockItem>, OutOfMemory>
-    ensures { IfOk result (λ kept. kept ≡ spec.kept_items (facts_of at.now) spread own.now items.now) }
+// A written annotation keeps all that it offers.
+fn all_of(own: &Texts, offers: Items<Offer>) -> Items<Offer>
+    ensures { result ≡ spec.kept_offers false own.now offers }
 {
-    let mut kept = Items::new(alloc);
-    for item in items {
-        let detail = lock_detail(alloc, at.locks, at.class, item)?;
-        let text = labelled(alloc, PromiseName::RequiresLock, detail.as_slice())?;
-        if !goes(spread, own, &text) {
-            kept.push(copied_item(item)?)?;
-        }
-    }
-    Ok(kept)
+    let _written = own;
+    offers
 }
 
-// The code of what the content names.
-fn content_code(
+// What is left of the promises that an annotation offers: one that is spread gives nothing that the
+// member has itself.
+fn kept_offers(
     alloc: Global,
-    at: &Context<'_>,
-    has_this: bool,
     spread: bool,
     own: &Texts,
-    tree: &PromiseTree,
-) -> Result<Option<ScrubCode>, OutOfMemory>
-    ensures { IfOk result (λ code. code ≡ spec.content_code (facts_of at.now) has_this spread own.now (out-PromiseTree tree.now)) }
+    offers: Items<Offer>,
+) -> Result<Items<Offer>, OutOfMemory>
+    ensures { IfOk result (λ kept. kept ≡ spec.kept_offers spread own.now offers) }
 {
-    match tree {
-        PromiseTree::InRegion(name) => Ok(in_region_code(at.regions, name, at.field_static)),
-        PromiseTree::RequiresLock(items) => {
-            let kept = kept_items(alloc, at, spread, own, items.as_slice())?;
-            let lookup = Lookup {
-                kinds: at.locks,
-                class: at.class,
-                has_this,
-                params: at.params,
-            };
-            Ok(locks_code(&lookup, kept.as_slice()))
-        }
-        PromiseTree::RegionEffects(effects) => {
-            let lookup = Lookup {
-                kinds: at.regions,
-                class: at.class,
-                has_this,
-                params: at.params,
-            };
-            Ok(effects_code(&lookup, effects))
-        }
-        _ => Ok(None),
+    if spread {
+        not_among(alloc, own, offers.as_slice())
+    } else {
+        Ok(all_of(own, offers))
     }
 }
 
-// Whether one of the claims repeats a tag, or an earlier claim.
-fn repeats(alloc: Global, tags: &Texts, claims: &[Claim]) -> Result<bool, OutOfMemory>
-    ensures { IfOk result (λ answer. answer ≡ spec.repeats tags.now [] claims.now) }
+// Whether one of the promises repeats one that stands, or an earlier one of these.
+fn repeats(alloc: Global, tags: &Texts, offers: &[Offer]) -> Result<bool, OutOfMemory>
+    ensures { IfOk result (λ answer. answer ≡ spec.repeats_tag tags.now [] offers.now) }
 {
     let mut seen = Texts::new(alloc);
-    for claim in claims {
-        if tags.has(&claim.tag) || seen.has(&claim.tag) {
+    for offer in offers {
+        let tag = form_tag(alloc, offer)?;
+        if tags.has(&tag) || seen.has(&tag) {
             return Ok(true);
         }
-        seen.push(claim.tag.clone()?)?;
+        seen.push(tag)?;
     }
     Ok(false)
 }
@@ -123,81 +79,96 @@ fn repeats(alloc: Global, tags: &Texts, claims: &[Claim]) -> Result<bool, OutOfM
 fn repeat_code(
     alloc: Global,
     tags: &Texts,
-    claims: &[Claim],
-) -> Result<Option<ScrubCode>, OutOfMemory>
-    ensures { IfOk result (λ code. code ≡ spec.repeat_code tags.now claims.now) }
+    offers: &[Offer],
+) -> Result<Option<FindingCode>, OutOfMemory>
+    ensures { IfOk result (λ code. code ≡ spec.repeat_code tags.now offers.now) }
 {
-    if repeats(alloc, tags, claims)? {
-        Ok(Some(ScrubCode::RepeatedPromise))
+    if repeats(alloc, tags, offers)? {
+        Ok(Some(FindingCode::RepeatedPromise))
     } else {
         Ok(None)
     }
 }
 
-pub(crate) fn is_vouch(tree: &PromiseTree) -> bool
-    ensures { result ≡ spec.is_vouch (out-PromiseTree tree.now) }
+fn least_code(first: Option<FindingCode>, offers: &[Offer]) -> Option<FindingCode>
+    ensures { result ≡ spec.least_code first offers.now }
 {
-    matches!(tree, PromiseTree::Vouch(_))
+    let mut code = first;
+    for offer in offers {
+        code = least(code, offer.code);
+    }
+    code
 }
 
-// Sets it aside with its code, or lets it stand.
+// Sets an annotation aside with its code, or lets it stand.
 fn put_by_code(
     alloc: Global,
-    at: &Context<'_>,
-    spread: bool,
+    place: &Place<'_>,
     name: PromiseName,
-    tree: &PromiseTree,
-    claims: &[Claim],
-    code: Option<ScrubCode>,
+    tree: &Shared<PromiseTree>,
+    offers: &[Offer],
+    code: Option<FindingCode>,
     unit: &mut Unit,
 ) -> Result<(), OutOfMemory>
-    ensures { OnOk result (unit.new ≡ spec.by_code (facts_of at.now) spread name tree.now claims.now code unit.old) }
+    ensures { OnOk result (unit.new ≡ spec.put_by_code place.now.key.now place.now.spread name tree.now offers.now code unit.old) }
 {
     match code {
-        Some(code) => unit.put_aside(alloc, at.key, name, code),
-        None => unit.put_claims(alloc, at.key, spread, tree, is_vouch(tree), claims),
+        Some(code) => unit.put_aside(alloc, place.key, name, code),
+        None => unit.put_offers(alloc, place.key, place.spread, tree, offers),
     }
 }
 
-fn put_judged_with(
+// Judges an annotation by what is left of its promises: where nothing is left of one that is spread,
+// it is dropped; else the first code of its promises counts.
+fn put_kept(
     alloc: Global,
-    at: &Context<'_>,
-    site: Site,
-    spread: bool,
+    place: &Place<'_>,
     name: PromiseName,
-    tree: &PromiseTree,
-    claims: &Items<Claim>,
+    tree: &Shared<PromiseTree>,
+    offers: &Items<Offer>,
     unit: &mut Unit,
 ) -> Result<(), OutOfMemory>
-    ensures { OnOk result (unit.new ≡ spec.judged_with (facts_of at.now) site spread name tree.now claims.now unit.old) }
+    ensures { OnOk result (unit.new ≡ spec.put_kept place.now.key.now place.now.spread name tree.now offers.now unit.old) }
 {
-    if spread && claims.is_empty() {
+    if place.spread && offers.is_empty() {
         return Ok(());
     }
-    let content = content_code(alloc, at, site.has_this, spread, &unit.own, tree)?;
-    let repeat = repeat_code(alloc, &unit.tags, claims.as_slice())?;
-    let code = least(content, repeat);
-    put_by_code(alloc, at, spread, name, tree, claims.as_slice(), code, unit)
+    let repeat = repeat_code(alloc, &unit.tags, offers.as_slice())?;
+    let code = least_code(repeat, offers.as_slice());
+    put_by_code(alloc, place, name, tree, offers.as_slice(), code, unit)
 }
 
-/// Judges an annotation whose content is spelled, at a site, written there or spread to it, and puts
-/// it to its target's promises.
-pub(crate) fn put_judged(
+/// Judges an annotation whose content may stand at its site, and puts it to its unit's promises.
+pub(crate) fn put_tree(
     alloc: Global,
     at: &Context<'_>,
-    site: Site,
-    param: &[u8],
-    spread: bool,
+    place: &Place<'_>,
     name: PromiseName,
-    tree: &PromiseTree,
+    tree: &Shared<PromiseTree>,
     unit: &mut Unit,
 ) -> Result<(), OutOfMemory>
-    ensures { OnOk result (unit.new ≡ spec.judged (facts_of at.now) site param.now spread name tree.now unit.old) }
+    ensures { OnOk result (unit.new ≡ spec.put_annotation place.now.key.now unit.old (annotation_by (facts_of at.now) place.now.site place.now.param.now place.now.spread name None (Some tree.now))) }
 {
-    if let Some(code) = place_code(site, tree) {
-        return unit.put_aside(alloc, at.key, name, code);
+    let offers = offers_of(alloc, at, place.site, place.param, tree.get())?;
+    let kept = kept_offers(alloc, place.spread, &unit.own, offers)?;
+    put_kept(alloc, place, name, tree, &kept, unit)
+}
+
+/// Judges an annotation that has a code already, or none, and puts it to its unit's promises.
+pub(crate) fn put_annotation(
+    alloc: Global,
+    at: &Context<'_>,
+    place: &Place<'_>,
+    name: PromiseName,
+    code: Option<FindingCode>,
+    tree: &Option<Shared<PromiseTree>>,
+    unit: &mut Unit,
+) -> Result<(), OutOfMemory>
+    ensures { OnOk result (unit.new ≡ spec.put_annotation place.now.key.now unit.old (annotation_by (facts_of at.now) place.now.site place.now.param.now place.now.spread name code tree.now)) }
+{
+    match (code, tree) {
+        (Some(code), _) => unit.put_aside(alloc, place.key, name, code),
+        (None, None) => unit.put_aside(alloc, place.key, name, FindingCode::BadContent),
+        (None, Some(tree)) => put_tree(alloc, at, place, name, tree, unit),
     }
-    let claims = claims_of(alloc, at.locks, at.class, site.kind, param, tree)?;
-    let kept = kept_claims(alloc, spread, &unit.own, claims.as_slice())?;
-    put_judged_with(alloc, at, site, spread, name, tree, &kept, unit)
 }

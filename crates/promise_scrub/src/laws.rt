@@ -1,18 +1,43 @@
 //! What follows from the definitions alone: the calls do nothing, and their contracts are laws.
 
-ghost use Rattle.std.specs.Prelude.{◌≡◌};
+ghost use Rattle.std.specs.Prelude.{◌≡◌, ℕ, List};
 ghost use Rattle.java_tree.specs.declared.file.ClassTree.{ClassTree};
 ghost use Rattle.promise_scrub.specs.declared.surface.Surface.{Surface as Face};
 ghost use Rattle.promise_scrub.specs.Alike.{Alike};
+ghost use Rattle.result_records.specs.declared.code.FindingCode.{FindingCode};
+ghost use Rattle.promise_scrub.specs.declared.surface.Aside.{Aside};
+ghost use Rattle.promise_scrub.specs.Counted.{IsAmong, IsCounted};
+ghost use Rattle.promise_scrub.specs.Differ.{KeysDiffer};
 ghost use Rattle.promise_scrub.specs.Surfaces.{Surface};
+ghost use Rattle.promise_scrub.specs.Verdicts.{Annotation, Judged, SetAside, aside_of, asides, judged, standings};
 
 /// A class has one surface.
 pub fn one_surface()
     ensures { (class : ClassTree) (a b : Face) → Surface class a → Surface class b → a ≡ b }
 {}
 
-/// Two classes that differ at most in places in the file, in words such as `synchronized`, in what
-/// is thrown, and in the code of bodies but for the names that it assigns to, have one surface.
+/// Two classes have one surface that differ at most in places in the file, in words such as
+/// `synchronized`, in what is thrown, in initializers of fields that give these no other form, and in
+/// the code of bodies but for which of their own member's parameters it assigns to.
 pub fn surfaces_alike()
     ensures { (a b : ClassTree) (face : Face) → Alike a b → Surface a face → Surface b face }
+{}
+
+/// No two promises that stand at a unit have one key.
+pub fn standing_keys_differ()
+    ensures { (key : List ℕ) (annotations : List Annotation) → KeysDiffer (standings key (judged annotations)) }
+{}
+
+/// The k-th annotation of a unit, of those of which something is left, is listed as set aside under
+/// `#k` where it is set aside.
+pub fn set_aside_is_listed()
+    ensures { (key : List ℕ) (js : List Judged) (k : ℕ) (j : Judged) (code : FindingCode) → IsCounted js k j → j.verdict ≡ SetAside code
+        → IsAmong (aside_of key j.annotation.name k code) (asides key 0 js) }
+{}
+
+/// Whatever is listed as set aside under `#k` is the k-th annotation of its unit, of those of which
+/// something is left, and is set aside.
+pub fn listed_is_set_aside()
+    ensures { (key : List ℕ) (js : List Judged) (a : Aside) → IsAmong a (asides key 0 js)
+        → (k : ℕ) × (j : Judged) × (code : FindingCode) × IsCounted js k j × (j.verdict ≡ SetAside code) × (a ≡ aside_of key j.annotation.name k code) }
 {}

@@ -5,36 +5,23 @@
 #![tactic(auto)]
 
 mod assume;
-mod claims;
-mod context;
-mod fields;
 mod found;
 mod gather;
 mod judge;
-mod kinds;
 mod laws;
-mod lock;
-mod locks;
+mod listed;
 mod member;
-mod regions;
 mod scrub;
 mod spread;
 mod surface;
-mod table;
+mod tags;
 mod texts;
 mod unit;
 
 pub use class_faces::{FaceTy, FieldFace, MemberFace, ParamFace};
-pub use context::Context;
-pub use laws::{one_surface, surfaces_alike};
-pub use lock::{Lock, LockField};
-pub use locks::{HeaderLocks, scrub_locks};
-pub use member::Scoped;
+pub use laws::{
+    listed_is_set_aside, one_surface, set_aside_is_listed, standing_keys_differ, surfaces_alike,
+};
 pub use region_tree::RegionDecl;
-pub use regions::{ScrubbedRegions, decls_of, first_codes, places_of, scrub_regions};
 pub use scrub::surface_of;
-pub use scrub_rules::ScrubCode;
-pub use spread::{promises_of, scoped_of};
 pub use surface::{Aside, Assumption, Standing, Surface};
-pub use texts::Texts;
-pub use unit::Unit;

@@ -1,13 +1,13 @@
 ghost use Rattle.std.specs.Prelude.{◌≡◌, IfOk};
 
 use desk_base::OutOfMemory;
-use promise_grammar::{NamePattern, PromiseTree, ScopeContent};
+use promise_grammar::{NamePattern, PromiseTree, ScopeContent, Shared};
 
 /// A scoped promise of a class: the promise that it gives, and what it is for.
-#[derive(Debug, Drop)]
-pub struct Scoped {
-    pub inner: PromiseTree,
-    pub scope: ScopeContent,
+#[derive(Drop)]
+pub(crate) struct Scoped {
+    pub(crate) inner: Shared<PromiseTree>,
+    pub(crate) scope: ScopeContent,
 }
 
 fn copied_pattern(pattern: &NamePattern) -> Result<NamePattern, OutOfMemory>

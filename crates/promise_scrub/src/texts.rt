@@ -5,7 +5,7 @@ use std::marker::Model;
 
 /// Texts in the order in which they were put, each of which can be looked up. Callers see a list.
 #[derive(Drop)]
-pub struct Texts {
+pub(crate) struct Texts {
     list: Items<Bytes>,
     set: BTreeSet<Bytes>,
 }
@@ -26,7 +26,7 @@ impl Texts {
     ghost use Rattle.promise_scrub.specs.Texts.{is_among};
 
     /// No texts.
-    pub fn new(alloc: Global) -> Texts
+    pub(crate) fn new(alloc: Global) -> Texts
         ensures { result ≡ [] }
     {
         Texts {
@@ -36,14 +36,14 @@ impl Texts {
     }
 
     /// Whether the text is one of these.
-    pub fn has(&self, text: &Bytes) -> bool
+    pub(crate) fn has(&self, text: &Bytes) -> bool
         ensures { result ≡ is_among text.now self.now }
     {
         self.set.contains(text)
     }
 
     /// Puts one more text.
-    pub fn push(&mut self, text: Bytes) -> Result<(), OutOfMemory>
+    pub(crate) fn push(&mut self, text: Bytes) -> Result<(), OutOfMemory>
         ensures { OnOk result (self.new ≡ self.old ++ text ∷ []) }
     {
         let copy = text.clone()?;

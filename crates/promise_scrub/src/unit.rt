@@ -1,31 +1,33 @@
-use crate::claims::{aside_of, claim_text, put_standing};
+use crate::listed::{aside_of, is_vouch, standing_of};
 use crate::surface::{Aside, Standing};
+use crate::tags::{form_tag, key_tag};
 use crate::texts::Texts;
 use desk_base::{Items, OutOfMemory, PromiseName, Text};
-use promise_grammar::PromiseTree;
-use scrub_rules::{Claim, ScrubCode};
+use promise_grammar::{PromiseTree, Shared};
+use result_records::FindingCode;
+use scrub_rules::Offer;
 use std::alloc::Global;
 
 /// The promises of one unit, as its annotations are judged one by one: how many there were, which
-/// promises the written ones gave, the tags and the promises of those that stand, and what stands
-/// and what was set aside.
+/// promises the written ones gave, the forms and the keys of those that stand, and what stands and
+/// what was set aside.
 #[derive(Drop)]
-pub struct Unit {
-    pub number: usize,
-    pub own: Texts,
-    pub tags: Texts,
-    pub stood: Texts,
-    pub standing: Items<Standing>,
-    pub aside: Items<Aside>,
-    pub vouched: bool,
+pub(crate) struct Unit {
+    pub(crate) number: usize,
+    pub(crate) own: Texts,
+    pub(crate) tags: Texts,
+    pub(crate) stood: Texts,
+    pub(crate) standing: Items<Standing>,
+    pub(crate) aside: Items<Aside>,
+    pub(crate) vouched: bool,
 }
 
 impl Unit {
     ghost use Rattle.std.specs.Prelude.{◌≡◌, OnOk};
-    ghost use Rattle.promise_scrub.specs.Units as spec;
+    ghost use Rattle.promise_scrub.specs.Steps as spec;
 
-    /// A target without promises.
-    pub fn new(alloc: Global) -> Unit
+    /// A unit without promises.
+    pub(crate) fn new(alloc: Global) -> Unit
         ensures { result ≡ spec.no_promises }
     {
         Unit {
@@ -45,7 +47,7 @@ impl Unit {
         alloc: Global,
         key: &Text,
         name: PromiseName,
-        code: ScrubCode,
+        code: FindingCode,
     ) -> Result<(), OutOfMemory>
         ensures { OnOk result (self.new ≡ spec.put_aside key.now name code self.old) }
     {
@@ -55,67 +57,74 @@ impl Unit {
         Ok(())
     }
 
-    fn put_own(&mut self, alloc: Global, spread: bool, claim: &Claim) -> Result<(), OutOfMemory>
-        ensures { OnOk result (self.new ≡ record self.old { own = spec.own_more spread self.old claim.now }) }
+    fn put_own(&mut self, alloc: Global, spread: bool, offer: &Offer) -> Result<(), OutOfMemory>
+        ensures { OnOk result (self.new ≡ record self.old { own = spec.own_more spread self.old offer.now }) }
     {
         if spread {
             return Ok(());
         }
-        let text = claim_text(alloc, claim)?;
-        self.own.push(text)?;
+        let tag = key_tag(alloc, offer)?;
+        self.own.push(tag)?;
         Ok(())
     }
 
-    fn put_promise(
+    fn put_standing(
         &mut self,
         alloc: Global,
         key: &Text,
-        tree: &PromiseTree,
-        claim: &Claim,
+        tree: &Shared<PromiseTree>,
+        offer: &Offer,
     ) -> Result<(), OutOfMemory>
-        ensures { OnOk result (self.new ≡ record self.old { standing = spec.standing_more key.now tree.now self.old claim.now }) }
+        ensures { OnOk result (self.new ≡ record self.old { standing = spec.standing_more key.now tree.now self.old offer.now }) }
     {
-        let text = claim_text(alloc, claim)?;
-        if self.stood.has(&text) {
+        let tag = key_tag(alloc, offer)?;
+        if self.stood.has(&tag) {
             return Ok(());
         }
-        put_standing(alloc, &mut self.standing, key, claim, tree)
+        let promise = standing_of(key, tree, offer)?;
+        self.standing.push(promise)?;
+        Ok(())
     }
 
-    fn put_claim(
+    fn put_tags(&mut self, alloc: Global, offer: &Offer) -> Result<(), OutOfMemory>
+        ensures { OnOk result (self.new ≡ spec.put_tags self.old offer.now) }
+    {
+        let tag = key_tag(alloc, offer)?;
+        self.stood.push(tag)?;
+        let form = form_tag(alloc, offer)?;
+        self.tags.push(form)
+    }
+
+    fn put_offer(
         &mut self,
         alloc: Global,
         key: &Text,
         spread: bool,
-        tree: &PromiseTree,
-        claim: &Claim,
+        tree: &Shared<PromiseTree>,
+        offer: &Offer,
     ) -> Result<(), OutOfMemory>
-        ensures { OnOk result (self.new ≡ spec.put_claim key.now spread tree.now self.old claim.now) }
+        ensures { OnOk result (self.new ≡ spec.put_offer key.now spread tree.now self.old offer.now) }
     {
-        self.put_promise(alloc, key, tree, claim)?;
-        self.put_own(alloc, spread, claim)?;
-        let text = claim_text(alloc, claim)?;
-        self.stood.push(text)?;
-        self.tags.push(claim.tag.clone()?)?;
-        Ok(())
+        self.put_standing(alloc, key, tree, offer)?;
+        self.put_own(alloc, spread, offer)?;
+        self.put_tags(alloc, offer)
     }
 
     /// Puts one more annotation that stands, with the promises that it gives.
-    pub(crate) fn put_claims(
+    pub(crate) fn put_offers(
         &mut self,
         alloc: Global,
         key: &Text,
         spread: bool,
-        tree: &PromiseTree,
-        vouches: bool,
-        claims: &[Claim],
+        tree: &Shared<PromiseTree>,
+        offers: &[Offer],
     ) -> Result<(), OutOfMemory>
-        ensures { OnOk result (self.new ≡ spec.put_claims key.now spread tree.now vouches claims.now self.old) }
+        ensures { OnOk result (self.new ≡ spec.put_offers key.now spread tree.now offers.now self.old) }
     {
         self.number = self.number.checked_add(1).ok_or(OutOfMemory)?;
-        self.vouched = self.vouched || vouches;
-        for claim in claims {
-            self.put_claim(alloc, key, spread, tree, claim)?;
+        self.vouched = self.vouched || is_vouch(tree.get());
+        for offer in offers {
+            self.put_offer(alloc, key, spread, tree, offer)?;
         }
         Ok(())
     }

@@ -9,8 +9,8 @@ use Rattle.region_tree.specs.Regions.{number_of, region_names, decl_name, parent
 use Rattle.region_tree.proofs.Numbers.{number_below}
 use Rattle.region_scrub.specs.declared.fault.RegionFault.{RegionFault}
 use Rattle.region_scrub.specs.declared.fault.RegionFault.TheVariants as fault
-use Rattle.region_scrub.specs.declared.mark.Mark.{Mark}
-use Rattle.region_scrub.specs.declared.mark.Mark.TheVariants as mark
+use Rattle.region_scrub.specs.declared.chain_state.ChainState.{ChainState}
+use Rattle.region_scrub.specs.declared.chain_state.ChainState.TheVariants as mark
 use Rattle.region_scrub.specs.Indexes.{IsIndexed, LeastFrom}
 use Rattle.region_scrub.specs.Numbers.{Heads, Links, IsLeft, key_at, fault_at, link_if, head_at, own_numbers}
 use Rattle.region_scrub.specs.Rooting.{IsMarked, mark_at}
@@ -140,7 +140,7 @@ begin_marked declared up heads parents faults n is long l = record {
   closed = closed;
 }
   where
-    marks : List Mark
+    marks : List ChainState
     marks = mark.Rooted ∷ mark.Rooted ∷ replicate n mark.Fresh
 
     settled : (k : ℕ) → mark_at (mark.Rooted ∷ mark.Rooted ∷ replicate n mark.Fresh) k ≢ mark.Passing

@@ -5,8 +5,8 @@ use Rattle.std.proofs.Math.ListN.{set}
 use Rattle.std.proofs.lemmas.Grind.{common_steps, elements}
 use Rattle.region_tree.specs.Chains.{parent_at, Leads, IsUnder, IsRooted}
 use Rattle.region_scrub.specs.declared.fault.RegionFault.{RegionFault}
-use Rattle.region_scrub.specs.declared.mark.Mark.{Mark}
-use Rattle.region_scrub.specs.declared.mark.Mark.TheVariants as mark
+use Rattle.region_scrub.specs.declared.chain_state.ChainState.{ChainState}
+use Rattle.region_scrub.specs.declared.chain_state.ChainState.TheVariants as mark
 use Rattle.region_scrub.specs.Numbers.{Heads, Links, IsLeft, IsSound, key_at, fault_at, link_if, head_at}
 use Rattle.region_scrub.specs.Rooting.{IsMarked, mark_at}
 use Rattle.region_scrub.specs.Stages.{IsLater, faults_by}
@@ -147,7 +147,7 @@ links_move up heads before after parents region key why o l f within key_within 
 -- ---- marks
 
 -- a region was set aside; before that nothing was known of it and of those below it
-pub record Dropped (own up : List (Option ℕ)) (region : ℕ) (why : RegionFault) (heads : List (Option ℕ)) (before : List (Option RegionFault)) (parents : List (Option ℕ)) (marks : List Mark)
+pub record Dropped (own up : List (Option ℕ)) (region : ℕ) (why : RegionFault) (heads : List (Option ℕ)) (before : List (Option RegionFault)) (parents : List (Option ℕ)) (marks : List ChainState)
     (new_heads : List (Option ℕ)) (after : List (Option RegionFault)) (new_parents : List (Option ℕ)) : Type 0 where
   pub low : 2 ≤ region
   pub there : region < length parents
@@ -158,11 +158,11 @@ pub record Dropped (own up : List (Option ℕ)) (region : ℕ) (why : RegionFaul
   pub faults : FaultsAfter before after region why
   pub rehead : (g : ℕ) → (key_at new_heads g ≡ key_at heads g) ⊎ (key_at heads g ≡ Some region)
 
-mark_set : (marks : List Mark) (at k : ℕ) (m : Mark) → at < length marks
+mark_set : (marks : List ChainState) (at k : ℕ) (m : ChainState) → at < length marks
     → ((k ≡ at) × (mark_at (set marks at m) k ≡ m)) ⊎ ((k ≢ at) × (mark_at (set marks at m) k ≡ mark_at marks k))
 mark_set marks at k m within = grind (arith, common_steps, elements)
 
-module _ (own up : List (Option ℕ)) (region : ℕ) (why : RegionFault) (heads : List (Option ℕ)) (before : List (Option RegionFault)) (parents : List (Option ℕ)) (marks : List Mark)
+module _ (own up : List (Option ℕ)) (region : ℕ) (why : RegionFault) (heads : List (Option ℕ)) (before : List (Option RegionFault)) (parents : List (Option ℕ)) (marks : List ChainState)
     (new_heads : List (Option ℕ)) (after : List (Option RegionFault)) (new_parents : List (Option ℕ))
     (d : Dropped own up region why heads before parents marks new_heads after new_parents) where
   head_kept : (k : ℕ) (key : Option ℕ) → key_at up k ≡ key → fault_at before k ≡ None → mark_at marks k ≢ mark.Fresh → head_at new_heads key ≡ head_at heads key

@@ -7,15 +7,15 @@ use Rattle.std.proofs.Math.ListN.{set}
 use Rattle.std.proofs.lemmas.List.Elements.{Contains-push, Contains-push_cases, Contains-append_left}
 use Rattle.std.proofs.lemmas.Grind.{common_steps}
 use Rattle.region_tree.specs.Chains.{parent_at}
-use Rattle.region_scrub.specs.declared.mark.Mark.{Mark}
-use Rattle.region_scrub.specs.declared.mark.Mark.TheVariants as mark
+use Rattle.region_scrub.specs.declared.chain_state.ChainState.{ChainState}
+use Rattle.region_scrub.specs.declared.chain_state.ChainState.TheVariants as mark
 use Rattle.region_scrub.specs.Indexes.{IsIndexed, LeastFrom}
 use Rattle.region_scrub.specs.Numbers.{key_at}
 use Rattle.region_scrub.specs.Rooting.{mark_at, Fits, Forgets, IsAhead, IsForgetting, IsForgettingAt, IsForgettingFrom, KeepsTops, SharesKey}
 use Rattle.region_scrub.proofs.Settling.{after_set, option_is}
 
 -- whether a mark is fresh
-fresh_or : (m : Mark) → (m ≡ mark.Fresh) ⊎ (m ≢ mark.Fresh)
+fresh_or : (m : ChainState) → (m ≡ mark.Fresh) ⊎ (m ≢ mark.Fresh)
 fresh_or mark.Fresh = inl refl
 fresh_or mark.Passing = inr (λ e. cc)
 fresh_or mark.Lost = inr (λ e. cc)
@@ -79,7 +79,7 @@ module _ (own up first next : List (Option ℕ)) (at child : ℕ) (cursor : Opti
         ahead_least up s.0 (child + 1) (key_at next child) next_least k low (f.2 ∙ ap (λ (z : ℕ). Some z) same)
 
     -- the regions from the next number on are still to come
-    pub forgetting_next : (marks : List Mark) (path : List ℕ) → IsForgettingFrom parents marks path at (Some (child + 1)) → IsForgettingFrom parents marks path at (key_at next child)
+    pub forgetting_next : (marks : List ChainState) (path : List ℕ) → IsForgettingFrom parents marks path at (Some (child + 1)) → IsForgettingFrom parents marks path at (key_at next child)
     forgetting_next marks path f = record {
       long = f.long;
       within = f.within;
@@ -93,7 +93,7 @@ module _ (own up first next : List (Option ℕ)) (at child : ℕ) (cursor : Opti
     }
 
 -- a region at the cursor that is forgotten
-module _ (parents : List (Option ℕ)) (marks : List Mark) (path : List ℕ) (at child : ℕ) (f : IsForgettingFrom parents marks path at (Some child)) (there : child < length marks) where
+module _ (parents : List (Option ℕ)) (marks : List ChainState) (path : List ℕ) (at child : ℕ) (f : IsForgettingFrom parents marks path at (Some child)) (there : child < length marks) where
   forgotten_within : (k : ℕ) → Contains (path ++ child ∷ []) k → k < length (set marks child mark.Fresh)
   forgotten_within k c = elim (Contains-push_cases path child k c) [
     | inl on ↦ (let low = f.within k on in grind (arith, common_steps))
@@ -131,7 +131,7 @@ module _ (parents : List (Option ℕ)) (marks : List Mark) (path : List ℕ) (at
   child_forgotten_to pushed is = subst (λ (p : List ℕ). IsForgettingFrom parents (set marks child mark.Fresh) p at (Some (child + 1))) (sym is) child_forgotten
 
 -- regions are forgotten, and then others
-pub forgets_then : (first second third : List Mark) (one two three : BTreeSet ℕ) → Forgets first second one two → Forgets second third two three → Forgets first third one three
+pub forgets_then : (first second third : List ChainState) (one two three : BTreeSet ℕ) → Forgets first second one two → Forgets second third two three → Forgets first third one three
 forgets_then first second third one two three f g = record {
   kept = λ k begun. g.kept k begun ∙ f.kept k (λ e. begun (g.kept k begun ∙ e));
   more = λ k has. g.more k (f.more k has);
@@ -142,11 +142,11 @@ forgets_then first second third one two three f g = record {
 }
 
 -- the same of regions without parent
-pub tops_then : (old new : List (Option ℕ)) (first second third : List Mark) → new ≡ old → KeepsTops old first second → KeepsTops new second third → KeepsTops new first third
+pub tops_then : (old new : List (Option ℕ)) (first second third : List ChainState) → new ≡ old → KeepsTops old first second → KeepsTops new second third → KeepsTops new first third
 tops_then old new first second third is f g = record { kept = λ k none. g.kept k none ∙ f.kept k (ap (λ (p : List (Option ℕ)). parent_at p k) (sym is) ∙ none) }
 
 -- the region that was taken from the path
-module _ (parents : List (Option ℕ)) (marks : List Mark) (path popped : List ℕ) (at : ℕ) (is : path ≡ popped ++ at ∷ []) (f : IsForgetting parents marks path) where
+module _ (parents : List (Option ℕ)) (marks : List ChainState) (path popped : List ℕ) (at : ℕ) (is : path ≡ popped ++ at ∷ []) (f : IsForgetting parents marks path) where
   top_on : Contains path at
   top_on = subst (λ (p : List ℕ). Contains p at) (sym is) (Contains-push popped at)
 

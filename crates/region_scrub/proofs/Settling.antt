@@ -8,17 +8,17 @@ use Rattle.std.proofs.lemmas.List.Elements.{Contains-push, Contains-push_cases, 
 use Rattle.std.proofs.lemmas.Grind.{common_steps, elements}
 use Rattle.region_tree.specs.Chains.{parent_at, Leads, IsUnder, IsRooted}
 use Rattle.region_tree.proofs.Rooted.{under_same, under_step}
-use Rattle.region_scrub.specs.declared.mark.Mark.{Mark}
-use Rattle.region_scrub.specs.declared.mark.Mark.TheVariants as mark
+use Rattle.region_scrub.specs.declared.chain_state.ChainState.{ChainState}
+use Rattle.region_scrub.specs.declared.chain_state.ChainState.TheVariants as mark
 use Rattle.region_scrub.specs.Rooting.{mark_at, mark_of, is_fresh, IsClimb, IsClimbed, IsPassed, IsWithin, Reaches, Stays}
 
 -- a read after a write
-pub after_set : (marks : List Mark) (at k : ℕ) (m : Mark) → at < length marks
+pub after_set : (marks : List ChainState) (at k : ℕ) (m : ChainState) → at < length marks
     → ((k ≡ at) × (mark_at (set marks at m) k ≡ m)) ⊎ ((k ≢ at) × (mark_at (set marks at m) k ≡ mark_at marks k))
 after_set marks at k m within = grind (arith, common_steps, elements)
 
 -- what an index in range reads
-pub mark_is : (marks : List Mark) (at : ℕ) (read : Mark) → at < length marks → read ≡ get_or marks at read → mark_at marks at ≡ read
+pub mark_is : (marks : List ChainState) (at : ℕ) (read : ChainState) → at < length marks → read ≡ get_or marks at read → mark_at marks at ≡ read
 mark_is marks at read within e = grind (arith, get_or_default)
 
 -- the same, of numbers
@@ -27,7 +27,7 @@ pub option_is : (options : List (Option ℕ)) (at : ℕ) (read : Option ℕ) →
 option_is options at read within e = grind (arith, get_or_default)
 
 -- a region that is begun is there
-begun_within : (marks : List Mark) (k : ℕ) → mark_at marks k ≢ mark.Fresh → k < length marks
+begun_within : (marks : List ChainState) (k : ℕ) → mark_at marks k ≢ mark.Fresh → k < length marks
 begun_within [] k begun = absurd (begun refl)
 begun_within (m ∷ marks) zero begun = omega arith
 begun_within (m ∷ marks) (suc k) begun = omega (arith, begun_within marks k begun)
@@ -76,15 +76,15 @@ unfolding IsRooted IsUnder
 shut_unrooted parents P shut k in_it = λ rooted. shut_chain parents P rooted.0 shut rooted.1 rooted.2.0 k in_it rooted.2.1
 
 -- a write of a mark that is begun keeps what is begun
-set_begun : (marks : List Mark) (at k : ℕ) (m : Mark) → at < length marks → m ≢ mark.Fresh → mark_at marks k ≢ mark.Fresh → mark_at (set marks at m) k ≢ mark.Fresh
+set_begun : (marks : List ChainState) (at k : ℕ) (m : ChainState) → at < length marks → m ≢ mark.Fresh → mark_at marks k ≢ mark.Fresh → mark_at (set marks at m) k ≢ mark.Fresh
 set_begun marks at k m within begun there =
     elim (after_set marks at k m within) [ inl h ↦ λ f. begun (sym h.1 ∙ f) | inr h ↦ λ f. there (sym h.1 ∙ f) ]
 
-set_here_begun : (marks : List Mark) (at k : ℕ) (m : Mark) → at < length marks → m ≢ mark.Fresh → k ≡ at → mark_at (set marks at m) k ≢ mark.Fresh
+set_here_begun : (marks : List ChainState) (at k : ℕ) (m : ChainState) → at < length marks → m ≢ mark.Fresh → k ≡ at → mark_at (set marks at m) k ≢ mark.Fresh
 set_here_begun marks at k m within begun same =
     elim (after_set marks at k m within) [ inl h ↦ λ f. begun (sym h.1 ∙ f) | inr h ↦ absurd (h.0 same) ]
 
-module _ (parents : List (Option ℕ)) (marks : List Mark) (path : List ℕ) (at : ℕ) (climb : IsClimb parents marks path at)
+module _ (parents : List (Option ℕ)) (marks : List ChainState) (path : List ℕ) (at : ℕ) (climb : IsClimb parents marks path at)
     (within : at < length marks) (fresh : mark_at marks at ≡ mark.Fresh) where
   passed_low : 2 ≤ at
   passed_low = elim (low_or at) [ inl low ↦ (let both : mark.Rooted ≡ mark.Fresh = sym (climb.roots at low) ∙ fresh in absurd (cc)) | inr high ↦ high ]
@@ -185,7 +185,7 @@ module _ (parents : List (Option ℕ)) (marks : List Mark) (path : List ℕ) (at
         steps = λ k x c p. elim (Contains-push_cases path at k c) [ inl there ↦ inl (passed_steps k x there p) | inr same ↦ absurd (no_parent k x (sym same) p) ];
       }
 
-module _ (parents : List (Option ℕ)) (marks : List Mark) (path : List ℕ) (at : ℕ) (climb : IsClimb parents marks path at)
+module _ (parents : List (Option ℕ)) (marks : List ChainState) (path : List ℕ) (at : ℕ) (climb : IsClimb parents marks path at)
     (begun : mark_at marks at ≢ mark.Fresh) where
   -- the end of a climb at a region that is begun
   climb_ends : (reaches : Bool) → ((k : ℕ) → Contains path k → Reaches reaches parents k) → IsClimbed parents marks path reaches
@@ -213,7 +213,7 @@ module _ (parents : List (Option ℕ)) (marks : List Mark) (path : List ℕ) (at
   pub climb_misses : mark_at marks at ≢ mark.Rooted → IsClimbed parents marks path false
   climb_misses other = climb_ends false (shut_unrooted parents (λ z. Contains path z) (record { low = climb.low; steps = steps }))
     where
-      at_end : (m : Mark) → mark_at marks at ≡ m → Contains path at ⊎ (¬ (IsRooted parents at))
+      at_end : (m : ChainState) → mark_at marks at ≡ m → Contains path at ⊎ (¬ (IsRooted parents at))
       at_end mark.Fresh e = absurd (begun e)
       at_end mark.Passing e = inl (climb.passing at e)
       at_end mark.Lost e = inr (climb.lost at e)
@@ -226,7 +226,7 @@ module _ (parents : List (Option ℕ)) (marks : List Mark) (path : List ℕ) (at
       ]
 
 -- what is known stays known where a region of which nothing is known is passed
-pub pass_stays : (before marks : List Mark) (at : ℕ) → Stays before marks → at < length marks → mark_at marks at ≡ mark.Fresh → Stays before (set marks at mark.Passing)
+pub pass_stays : (before marks : List ChainState) (at : ℕ) → Stays before marks → at < length marks → mark_at marks at ≡ mark.Fresh → Stays before (set marks at mark.Passing)
 pass_stays before marks at s within fresh = record {
   stays = λ k begun. elim (after_set marks at k mark.Passing within) [
     | inl h ↦ absurd (begun (sym (s.stays k begun) ∙ ap (λ (z : ℕ). mark_at marks z) h.0 ∙ fresh))
@@ -235,7 +235,7 @@ pass_stays before marks at s within fresh = record {
 }
 
 -- the start of the climb after a region is passed
-pub pass_begun : (marks : List Mark) (at start : ℕ) → at < length marks → (at ≡ start) ⊎ (mark_at marks start ≢ mark.Fresh)
+pub pass_begun : (marks : List ChainState) (at start : ℕ) → at < length marks → (at ≡ start) ⊎ (mark_at marks start ≢ mark.Fresh)
     → mark_at (set marks at mark.Passing) start ≢ mark.Fresh
 pass_begun marks at start within begun =
     elim begun [
@@ -244,36 +244,36 @@ pass_begun marks at start within begun =
     ]
 
 -- the start of a climb that came to a region that is begun
-pub start_begun : (marks : List Mark) (at start : ℕ) → (at ≡ start) ⊎ (mark_at marks start ≢ mark.Fresh) → mark_at marks at ≢ mark.Fresh
+pub start_begun : (marks : List ChainState) (at start : ℕ) → (at ≡ start) ⊎ (mark_at marks start ≢ mark.Fresh) → mark_at marks at ≢ mark.Fresh
     → mark_at marks start ≢ mark.Fresh
 start_begun marks at start begun here = elim begun [ inl same ↦ subst (λ (k : ℕ). mark_at marks k ≢ mark.Fresh) same here | inr there ↦ there ]
 
 -- what a read says where it is tested
-pub fresh_read : (marks : List Mark) (at : ℕ) (read : Mark) (b : Bool) → at < length marks → read ≡ get_or marks at read → b ≡ is_fresh read → b ≡ true → mark_at marks at ≡ mark.Fresh
+pub fresh_read : (marks : List ChainState) (at : ℕ) (read : ChainState) (b : Bool) → at < length marks → read ≡ get_or marks at read → b ≡ is_fresh read → b ≡ true → mark_at marks at ≡ mark.Fresh
 fresh_read marks at read b within is test holds = mark_is marks at read within is ∙ go read (sym test ∙ holds)
   where
-    go : (m : Mark) → is_fresh m ≡ true → m ≡ mark.Fresh
+    go : (m : ChainState) → is_fresh m ≡ true → m ≡ mark.Fresh
     go mark.Fresh e = refl
     go mark.Passing e = absurd (cc)
     go mark.Lost e = absurd (cc)
     go mark.Rooted e = absurd (cc)
 
 -- the same where the test fails
-pub begun_read : (marks : List Mark) (at : ℕ) (read : Mark) (b : Bool) → at < length marks → read ≡ get_or marks at read → b ≡ is_fresh read → b ≡ false → mark_at marks at ≢ mark.Fresh
+pub begun_read : (marks : List ChainState) (at : ℕ) (read : ChainState) (b : Bool) → at < length marks → read ≡ get_or marks at read → b ≡ is_fresh read → b ≡ false → mark_at marks at ≢ mark.Fresh
 begun_read marks at read b within is test fails = λ f. go read (sym (mark_is marks at read within is) ∙ f) (sym test ∙ fails)
   where
-    go : (m : Mark) → m ≡ mark.Fresh → is_fresh m ≡ false → ⊥
+    go : (m : ChainState) → m ≡ mark.Fresh → is_fresh m ≡ false → ⊥
     go mark.Fresh e other = cc
     go mark.Passing e other = cc
     go mark.Lost e other = cc
     go mark.Rooted e other = cc
 
 -- the path of a climb is passed
-pub climb_passed : (parents : List (Option ℕ)) (marks : List Mark) (path : List ℕ) (at : ℕ) → IsClimb parents marks path at → IsPassed marks path
+pub climb_passed : (parents : List (Option ℕ)) (marks : List ChainState) (path : List ℕ) (at : ℕ) → IsClimb parents marks path at → IsPassed marks path
 climb_passed parents marks path at climb = record { passed = climb.begun }
 
 -- the same facts of a path that is the old one with a region more
-module _ (parents : List (Option ℕ)) (marks : List Mark) (path pushed : List ℕ) (at : ℕ) (is : pushed ≡ path ++ at ∷ [])
+module _ (parents : List (Option ℕ)) (marks : List ChainState) (path pushed : List ℕ) (at : ℕ) (is : pushed ≡ path ++ at ∷ [])
     (climb : IsClimb parents marks path at) (within : at < length marks) (fresh : mark_at marks at ≡ mark.Fresh) where
   -- a step up to the parent
   pub climb_steps_to : (x : ℕ) → parent_at parents at ≡ Some x → IsClimb parents (set marks at mark.Passing) pushed x
@@ -288,7 +288,7 @@ module _ (parents : List (Option ℕ)) (marks : List Mark) (path pushed : List �
   passed_to = subst (λ (p : List ℕ). IsPassed (set marks at mark.Passing) p) (sym is) (record { passed = passed_begun parents marks path at climb within fresh })
 
 -- the last region of the path takes its mark
-module _ (parents : List (Option ℕ)) (marks : List Mark) (path : List ℕ) (at : ℕ) (reaches : Bool) (climbed : IsClimbed parents marks (path ++ at ∷ []) reaches) where
+module _ (parents : List (Option ℕ)) (marks : List ChainState) (path : List ℕ) (at : ℕ) (reaches : Bool) (climbed : IsClimbed parents marks (path ++ at ∷ []) reaches) where
   top_within : at < length marks
   top_within = climbed.within at (Contains-push path at)
 
@@ -348,7 +348,7 @@ module _ (parents : List (Option ℕ)) (marks : List Mark) (path : List ℕ) (at
   }
 
 -- the same with the mark and the path by equations
-module _ (parents : List (Option ℕ)) (marks : List Mark) (path popped : List ℕ) (at : ℕ) (reaches : Bool) (m : Mark) (is : path ≡ popped ++ at ∷ [])
+module _ (parents : List (Option ℕ)) (marks : List ChainState) (path popped : List ℕ) (at : ℕ) (reaches : Bool) (m : ChainState) (is : path ≡ popped ++ at ∷ [])
     (climbed : IsClimbed parents marks path reaches) (mark_is : m ≡ mark_of reaches) where
   popped_climbed : IsClimbed parents marks (popped ++ at ∷ []) reaches
   popped_climbed = subst (λ (p : List ℕ). IsClimbed parents marks p reaches) is climbed
@@ -359,13 +359,13 @@ module _ (parents : List (Option ℕ)) (marks : List Mark) (path popped : List �
 
   -- it takes its mark
   pub popped_finished : IsClimbed parents (set marks at m) popped reaches
-  popped_finished = subst (λ (z : Mark). IsClimbed parents (set marks at z) popped reaches) (sym mark_is) (finished parents marks popped at reaches popped_climbed)
+  popped_finished = subst (λ (z : ChainState). IsClimbed parents (set marks at z) popped reaches) (sym mark_is) (finished parents marks popped at reaches popped_climbed)
 
   -- what is begun stays begun
   pub popped_begun : (k : ℕ) → mark_at marks k ≢ mark.Fresh → mark_at (set marks at m) k ≢ mark.Fresh
   popped_begun k begun = set_begun marks at k m popped_within (λ f. mark_of-not-fresh reaches (sym mark_is ∙ f)) begun
 
-  module _ (before : List Mark) (passed : IsPassed before path) where
+  module _ (before : List ChainState) (passed : IsPassed before path) where
     -- the rest of the path was passed before
     pub popped_passed : IsPassed before popped
     popped_passed = record { passed = λ k c. passed.passed k (subst (λ (p : List ℕ). Contains p k) (sym is) (Contains-append_left popped (at ∷ []) k c)) }
@@ -379,6 +379,6 @@ module _ (parents : List (Option ℕ)) (marks : List Mark) (path popped : List �
     ]
 
 -- a parent is there
-pub parent_there : (parents : List (Option ℕ)) (marks : List Mark) (at x : ℕ) (m : Mark) → length marks ≡ length parents → IsWithin parents
+pub parent_there : (parents : List (Option ℕ)) (marks : List ChainState) (at x : ℕ) (m : ChainState) → length marks ≡ length parents → IsWithin parents
     → parent_at parents at ≡ Some x → x < length (set marks at m)
 parent_there parents marks at x m long within parent = let low = within.within at x parent in grind (arith, common_steps)

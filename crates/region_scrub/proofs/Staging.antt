@@ -8,8 +8,8 @@ use Rattle.std.proofs.lemmas.Bool.Decides.{nat_tests}
 use Rattle.std.proofs.lemmas.Grind.{common_steps}
 use Rattle.region_tree.specs.Regions.{region_kinds}
 use Rattle.region_scrub.specs.declared.fault.RegionFault.{RegionFault}
-use Rattle.region_scrub.specs.declared.mark.Mark.{Mark}
-use Rattle.region_scrub.specs.declared.mark.Mark.TheVariants as mark
+use Rattle.region_scrub.specs.declared.chain_state.ChainState.{ChainState}
+use Rattle.region_scrub.specs.declared.chain_state.ChainState.TheVariants as mark
 use Rattle.region_scrub.specs.declared.scrubber.Scrubber.{Scrubber}
 use Rattle.region_scrub.specs.Numbers.{HasFault, Links, IsLeft, IsSound, key_at}
 use Rattle.region_scrub.specs.Rooting.{IsMarked, ForgetsBut, Has, mark_at}
@@ -25,7 +25,7 @@ stage_faults s region why stage low left =
     let within : region < length s.declared.now + 2 = left_below s stage region left in
     faults_after s.aside.items region why low (omega (arith, stage.long))
 
-pub stage_dropped : (s : Scrubber) (region : ℕ) (why : RegionFault) (heads parents : List (Option ℕ)) (marks : List Mark) → IsStage s → 2 ≤ region
+pub stage_dropped : (s : Scrubber) (region : ℕ) (why : RegionFault) (heads parents : List (Option ℕ)) (marks : List ChainState) → IsStage s → 2 ≤ region
     → IsLeft (faults_by s.aside.items) region → IsMarked s.rooting.parents.items marks → mark_at marks region ≡ mark.Fresh
     → ((g : ℕ) → (key_at heads g ≡ key_at s.heads.items g) ⊎ (key_at s.heads.items g ≡ Some region))
     → Links s.below.keys.items heads (faults_by (set s.aside.items (region - 2) (Some why))) parents
@@ -53,7 +53,7 @@ rehead_move heads region key o within is g = elim (key_after heads key g o withi
 ]
 
 -- what was looked at and isn't in the work has no fault then either
-pub examined_dropped : (s : Scrubber) (region : ℕ) (why : RegionFault) (heads parents : List (Option ℕ)) (marks : List Mark) (work : BTreeSet ℕ)
+pub examined_dropped : (s : Scrubber) (region : ℕ) (why : RegionFault) (heads parents : List (Option ℕ)) (marks : List ChainState) (work : BTreeSet ℕ)
     → Dropped s.same.keys.items s.below.keys.items region why s.heads.items (faults_by s.aside.items) s.rooting.parents.items marks heads
     (faults_by (set s.aside.items (region - 2) (Some why))) parents
     → Examined s region → ForgetsBut region s.rooting.marks.items marks s.work work → (k : ℕ) → 2 ≤ k

@@ -5,26 +5,26 @@ use Rattle.std.specs.Ordering.{nat_cmp}
 use Rattle.std.specs.BTreeSet.{BTreeSet, contains}
 use Rattle.region_tree.specs.Chains.{parent_at, IsUnder, IsRooted}
 use Rattle.region_scrub.specs.Numbers.{key_at}
-use Rattle.region_scrub.specs.declared.mark.Mark.{Mark}
-use Rattle.region_scrub.specs.declared.mark.Mark.TheVariants as mark
+use Rattle.region_scrub.specs.declared.chain_state.ChainState.{ChainState}
+use Rattle.region_scrub.specs.declared.chain_state.ChainState.TheVariants as mark
 
-abbrev pub mark_at : List Mark → ℕ → Mark
+abbrev pub mark_at : List ChainState → ℕ → ChainState
 mark_at marks k = slice_index_or marks k mark.Fresh
 
-abbrev pub is_fresh : Mark → Bool
+abbrev pub is_fresh : ChainState → Bool
 is_fresh mark.Fresh = true
 is_fresh mark.Passing = false
 is_fresh mark.Lost = false
 is_fresh mark.Rooted = false
 
 -- 1 where nothing is known, and 1 where something is
-abbrev pub fresh_weight : Mark → ℕ
+abbrev pub fresh_weight : ChainState → ℕ
 fresh_weight mark.Fresh = 1
 fresh_weight mark.Passing = 0
 fresh_weight mark.Lost = 0
 fresh_weight mark.Rooted = 0
 
-abbrev pub known_weight : Mark → ℕ
+abbrev pub known_weight : ChainState → ℕ
 known_weight mark.Fresh = 0
 known_weight mark.Passing = 1
 known_weight mark.Lost = 1
@@ -36,7 +36,7 @@ pub record IsWithin (parents : List (Option ℕ)) : Type 0 where
   pub roots : (k : ℕ) → k < 2 → parent_at parents k ≡ None
 
 -- what holds of the marks between two climbs
-pub record IsMarked (parents : List (Option ℕ)) (marks : List Mark) : Type 0 where
+pub record IsMarked (parents : List (Option ℕ)) (marks : List ChainState) : Type 0 where
   pub long : length marks ≡ length parents
   pub settled : (k : ℕ) → mark_at marks k ≢ mark.Passing
   pub roots : (k : ℕ) → k < 2 → mark_at marks k ≡ mark.Rooted
@@ -45,7 +45,7 @@ pub record IsMarked (parents : List (Option ℕ)) (marks : List Mark) : Type 0 w
   pub closed : (k x : ℕ) → mark_at marks k ≢ mark.Fresh → parent_at parents k ≡ Some x → mark_at marks x ≢ mark.Fresh
 
 -- a climb came to `at`: the regions on its path are passed
-pub record IsClimb (parents : List (Option ℕ)) (marks : List Mark) (path : List ℕ) (at : ℕ) : Type 0 where
+pub record IsClimb (parents : List (Option ℕ)) (marks : List ChainState) (path : List ℕ) (at : ℕ) : Type 0 where
   pub long : length marks ≡ length parents
   pub roots : (k : ℕ) → k < 2 → mark_at marks k ≡ mark.Rooted
   pub rooted : (k : ℕ) → mark_at marks k ≡ mark.Rooted → IsRooted parents k
@@ -62,12 +62,12 @@ abbrev pub Reaches : Bool → List (Option ℕ) → ℕ → Type 0
 Reaches true parents k = IsRooted parents k
 Reaches false parents k = ¬ (IsRooted parents k)
 
-abbrev pub mark_of : Bool → Mark
+abbrev pub mark_of : Bool → ChainState
 mark_of true = mark.Rooted
 mark_of false = mark.Lost
 
 -- after a climb: whether the regions on the path, which have no mark of their own yet, reach a root
-pub record IsClimbed (parents : List (Option ℕ)) (marks : List Mark) (path : List ℕ) (reaches : Bool) : Type 0 where
+pub record IsClimbed (parents : List (Option ℕ)) (marks : List ChainState) (path : List ℕ) (reaches : Bool) : Type 0 where
   pub long : length marks ≡ length parents
   pub roots : (k : ℕ) → k < 2 → mark_at marks k ≡ mark.Rooted
   pub rooted : (k : ℕ) → mark_at marks k ≡ mark.Rooted → IsRooted parents k
@@ -80,11 +80,11 @@ pub record IsClimbed (parents : List (Option ℕ)) (marks : List Mark) (path : L
   pub closed : (k x : ℕ) → mark_at marks k ≢ mark.Fresh → parent_at parents k ≡ Some x → mark_at marks x ≢ mark.Fresh
 
 -- the regions on the path are passed
-pub record IsPassed (marks : List Mark) (path : List ℕ) : Type 0 where
+pub record IsPassed (marks : List ChainState) (path : List ℕ) : Type 0 where
   pub passed : (k : ℕ) → Contains path k → mark_at marks k ≡ mark.Passing
 
 -- what was known stays known
-pub record Stays (before after : List Mark) : Type 0 where
+pub record Stays (before after : List ChainState) : Type 0 where
   pub stays : (k : ℕ) → mark_at before k ≢ mark.Fresh → mark_at after k ≡ mark_at before k
 
 -- a parent's name has a number, and that of the parent as it is written is the same
@@ -96,25 +96,25 @@ abbrev pub Has : BTreeSet ℕ → ℕ → Type 0
 Has set k = IsTrue (contains nat_cmp set k)
 
 -- nothing is known any more of some regions, and these are in the set
-pub record Forgets (before after : List Mark) (old new : BTreeSet ℕ) : Type 0 where
+pub record Forgets (before after : List ChainState) (old new : BTreeSet ℕ) : Type 0 where
   pub kept : (k : ℕ) → mark_at after k ≢ mark.Fresh → mark_at after k ≡ mark_at before k
   pub more : (k : ℕ) → Has old k → Has new k
   pub told : (k : ℕ) → mark_at before k ≢ mark.Fresh → mark_at after k ≡ mark.Fresh → Has new k
 
 -- the same, but for one region, which need not be in the set
-pub record ForgetsBut (but : ℕ) (before after : List Mark) (old new : BTreeSet ℕ) : Type 0 where
+pub record ForgetsBut (but : ℕ) (before after : List ChainState) (old new : BTreeSet ℕ) : Type 0 where
   pub kept : (k : ℕ) → mark_at after k ≢ mark.Fresh → mark_at after k ≡ mark_at before k
   pub more : (k : ℕ) → Has old k → Has new k
   pub told : (k : ℕ) → k ≢ but → mark_at before k ≢ mark.Fresh → mark_at after k ≡ mark.Fresh → Has new k
 
 -- while regions are forgotten: what is below a forgotten region is forgotten, or that one is on the path
-pub record IsForgetting (parents : List (Option ℕ)) (marks : List Mark) (path : List ℕ) : Type 0 where
+pub record IsForgetting (parents : List (Option ℕ)) (marks : List ChainState) (path : List ℕ) : Type 0 where
   pub long : length marks ≡ length parents
   pub within : (k : ℕ) → Contains path k → k < length marks
   pub closed : (k x : ℕ) → mark_at marks k ≢ mark.Fresh → parent_at parents k ≡ Some x → (mark_at marks x ≢ mark.Fresh) ⊎ Contains path x
 
 -- the same, or that one is `at`
-pub record IsForgettingAt (parents : List (Option ℕ)) (marks : List Mark) (path : List ℕ) (at : ℕ) : Type 0 where
+pub record IsForgettingAt (parents : List (Option ℕ)) (marks : List ChainState) (path : List ℕ) (at : ℕ) : Type 0 where
   pub long : length marks ≡ length parents
   pub within : (k : ℕ) → Contains path k → k < length marks
   pub closed : (k x : ℕ) → mark_at marks k ≢ mark.Fresh → parent_at parents k ≡ Some x → (mark_at marks x ≢ mark.Fresh) ⊎ (Contains path x ⊎ (x ≡ at))
@@ -125,7 +125,7 @@ IsAhead None k = ⊥
 IsAhead (Some next) k = next ≤ k
 
 -- while what is right below `at` is forgotten: the same, or that one is `at` and the region is still to come
-pub record IsForgettingFrom (parents : List (Option ℕ)) (marks : List Mark) (path : List ℕ) (at : ℕ) (cursor : Option ℕ) : Type 0 where
+pub record IsForgettingFrom (parents : List (Option ℕ)) (marks : List ChainState) (path : List ℕ) (at : ℕ) (cursor : Option ℕ) : Type 0 where
   pub long : length marks ≡ length parents
   pub within : (k : ℕ) → Contains path k → k < length marks
   pub closed : (k x : ℕ) → mark_at marks k ≢ mark.Fresh → parent_at parents k ≡ Some x → (mark_at marks x ≢ mark.Fresh) ⊎ (Contains path x ⊎ ((x ≡ at) × IsAhead cursor k))
@@ -139,5 +139,5 @@ pub record IsAheadBelow (own up : List (Option ℕ)) (at : ℕ) (cursor : Option
   pub ahead : (k key : ℕ) → key_at own at ≡ Some key → key_at up k ≡ Some key → IsAhead cursor k
 
 -- a region without parent keeps its mark
-pub record KeepsTops (parents : List (Option ℕ)) (before after : List Mark) : Type 0 where
+pub record KeepsTops (parents : List (Option ℕ)) (before after : List ChainState) : Type 0 where
   pub kept : (k : ℕ) → parent_at parents k ≡ None → mark_at after k ≡ mark_at before k

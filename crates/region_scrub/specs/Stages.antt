@@ -2,7 +2,7 @@
 use Rattle.std.specs.Prelude.{◌≡◌, ◌≢◌, ℕ, ◌<◌, ◌≤◌, List, [], ◌∷◌, Option, Some, None, length}
 use Rattle.region_tree.specs.Regions.{parents_of, region_kinds}
 use Rattle.region_scrub.specs.declared.fault.RegionFault.{RegionFault}
-use Rattle.region_scrub.specs.declared.mark.Mark.TheVariants as mark
+use Rattle.region_scrub.specs.declared.chain_state.ChainState.TheVariants as mark
 use Rattle.region_scrub.specs.declared.scrubber.Scrubber.{Scrubber}
 use Rattle.region_scrub.specs.Indexes.{IsIndexed}
 use Rattle.region_scrub.specs.Numbers.{Heads, Links, IsLeft, IsSound, HasFault, key_at, own_numbers}

@@ -2,7 +2,7 @@ ghost use Rattle.std.specs.Prelude.{◌≡◌, ◌↔◌, IfOk, IsTrue, None};
 ghost use Rattle.region_scrub.specs.Clearing.{aside_at, left};
 
 use crate::fault::RegionFault;
-use desk_base::{Name, OutOfMemory};
+use desk_base::OutOfMemory;
 use region_tree::RegionDecl;
 use std::alloc::Global;
 
@@ -13,25 +13,6 @@ fn is_left(aside: &[Option<RegionFault>], i: usize) -> bool
         None => true,
         Some(fault) => fault.is_none(),
     }
-}
-
-fn parent_of(decl: &RegionDecl) -> Result<Option<Name>, OutOfMemory>
-    ensures { IfOk result (λ parent. parent ≡ decl.now.parent) }
-{
-    match &decl.parent {
-        None => Ok(None),
-        Some(name) => Ok(Some(name.clone()?)),
-    }
-}
-
-fn copy_of(decl: &RegionDecl) -> Result<RegionDecl, OutOfMemory>
-    ensures { IfOk result (λ copy. copy ≡ decl.now) }
-{
-    Ok(RegionDecl {
-        name: decl.name.clone()?,
-        parent: parent_of(decl)?,
-        is_static: decl.is_static,
-    })
 }
 
 /// The declarations that are not set aside, in order.
@@ -45,7 +26,7 @@ pub fn those_left(
     let mut decls = Vec::new(alloc);
     for (i, decl) in declared.iter().enumerate() {
         if is_left(aside, i) {
-            decls.push(copy_of(decl)?)?;
+            decls.push(decl.clone()?)?;
         }
     }
     Ok(decls)

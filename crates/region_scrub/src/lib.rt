@@ -2,12 +2,12 @@
 //! those that are left have no fault. It knows nothing of annotations nor of locks.
 #![tactic(auto)]
 
+mod chain_state;
 mod fault;
 mod index;
 mod laws;
 mod left;
 mod make;
-mod mark;
 mod rooting;
 mod scrubber;
 

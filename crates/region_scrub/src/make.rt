@@ -1,14 +1,14 @@
 ghost use Rattle.std.specs.Prelude.{◌≡◌, ◌∷◌, ℕ, ◌<◌, ◌≤◌, length, map, None, Some, IfOk, replicate};
 ghost use Rattle.region_tree.specs.Names.{Numbered};
-ghost use Rattle.region_scrub.specs.declared.mark.Mark.TheVariants.{Fresh, Rooted};
+ghost use Rattle.region_scrub.specs.declared.chain_state.ChainState.TheVariants.{Fresh, Rooted};
 ghost use Rattle.region_scrub.specs.Clearing.{Clears};
 ghost use Rattle.region_scrub.specs.Numbers.{head_at, own_numbers};
 ghost use Rattle.region_scrub.specs.Rooting.{Has};
 ghost use Rattle.region_scrub.specs.Stages.{Examined, IsStage};
 
+use crate::chain_state::ChainState;
 use crate::fault::RegionFault;
 use crate::index::Index;
-use crate::mark::Mark;
 use crate::rooting::Rooting;
 use crate::scrubber::{Scrubber, head_of};
 use desk_base::{Name, OutOfMemory};
@@ -50,14 +50,14 @@ fn heads_of(
 }
 
 // A root's chain reaches one; of the declared regions nothing is known.
-fn first_marks(alloc: Global, count: usize) -> Result<Vec<Mark>, OutOfMemory>
+fn first_marks(alloc: Global, count: usize) -> Result<Vec<ChainState>, OutOfMemory>
     ensures { IfOk result (λ marks. marks.items ≡ Rooted ∷ Rooted ∷ replicate count Fresh) }
 {
     let mut marks = Vec::new(alloc);
-    marks.push(Mark::Rooted)?;
-    marks.push(Mark::Rooted)?;
+    marks.push(ChainState::Rooted)?;
+    marks.push(ChainState::Rooted)?;
     for _i in 0..count {
-        marks.push(Mark::Fresh)?;
+        marks.push(ChainState::Fresh)?;
     }
     Ok(marks)
 }

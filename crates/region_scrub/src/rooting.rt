@@ -1,21 +1,21 @@
 ghost use Rattle.std.specs.Prelude.{◌≡◌, ◌≢◌, ℕ, ◌+◌, ◌<◌, ◌≤◌, [], IfOk, OnOk, Some, length, sum_by};
 ghost use Rattle.std.specs.Bool.{OnTrue, OnFalse};
 ghost use Rattle.region_tree.specs.Chains.{parent_at};
-ghost use Rattle.region_scrub.specs.declared.mark.Mark.TheVariants.{Fresh, Passing};
+ghost use Rattle.region_scrub.specs.declared.chain_state.ChainState.TheVariants.{Fresh, Passing};
 ghost use Rattle.region_scrub.specs.Indexes.{IsIndexed};
 ghost use Rattle.region_scrub.specs.Rooting.{Fits, Forgets, ForgetsBut, IsAheadBelow, IsClimbed, IsForgetting, IsForgettingAt, IsForgettingFrom, IsMarked, IsPassed, IsWithin, KeepsTops, Reaches, SharesKey, Stays, known_weight, mark_at};
 ghost use Rattle.region_scrub.specs.Rooting as spec;
 
+use crate::chain_state::ChainState;
 use crate::index::Index;
-use crate::mark::Mark;
 use desk_base::OutOfMemory;
 use std::alloc::Global;
 use std::collections::BTreeSet;
 
-fn is_fresh(mark: Mark) -> bool
+fn is_fresh(mark: ChainState) -> bool
     ensures { result ≡ spec.is_fresh mark }
 {
-    matches!(mark, Mark::Fresh)
+    matches!(mark, ChainState::Fresh)
 }
 
 // The first number below whose key is that of the region. A key past the end is nobody's.
@@ -36,7 +36,7 @@ fn first_below(same: &Index, below: &Index, region: usize) -> Option<usize>
 #[derive(Drop)]
 pub(crate) struct Rooting {
     pub(crate) parents: Vec<Option<usize>>,
-    pub(crate) marks: Vec<Mark>,
+    pub(crate) marks: Vec<ChainState>,
     pub(crate) path: Vec<usize>,
 }
 
@@ -57,13 +57,13 @@ impl Rooting {
         let mut at = start;
         while is_fresh(self.marks[at]) {
             self.path.push(at)?;
-            self.marks[at] = Mark::Passing;
+            self.marks[at] = ChainState::Passing;
             match self.parents[at] {
                 Some(parent) => at = parent,
                 None => return Ok(false),
             }
         }
-        Ok(matches!(self.marks[at], Mark::Rooted))
+        Ok(matches!(self.marks[at], ChainState::Rooted))
     }
 
     // Gives each region of the path its mark.
@@ -76,7 +76,11 @@ impl Rooting {
         ensures stays { (k : ℕ) → mark_at self.old.marks.items k ≢ Passing → mark_at self.new.marks.items k ≡ mark_at self.old.marks.items k }
         ensures begun { (k : ℕ) → mark_at self.old.marks.items k ≢ Fresh → mark_at self.new.marks.items k ≢ Fresh }
     {
-        let mark = if reaches { Mark::Rooted } else { Mark::Lost };
+        let mark = if reaches {
+            ChainState::Rooted
+        } else {
+            ChainState::Lost
+        };
         while let Some(region) = self.path.pop() {
             self.marks[region] = mark;
         }
@@ -99,7 +103,7 @@ impl Rooting {
             let reaches = self.climb(region)?;
             self.finish(reaches);
         }
-        Ok(matches!(self.marks[region], Mark::Rooted))
+        Ok(matches!(self.marks[region], ChainState::Rooted))
     }
 
     // Whether something is known of the region, and the other one is its parent.
@@ -137,7 +141,7 @@ impl Rooting {
         }
         self.path.push(child)?;
         work.insert(child)?;
-        self.marks[child] = Mark::Fresh;
+        self.marks[child] = ChainState::Fresh;
         Ok(())
     }
 
@@ -194,7 +198,7 @@ impl Rooting {
         ensures fresh { OnOk result (mark_at self.new.marks.items region ≡ Fresh) }
         ensures forgets { OnOk result (ForgetsBut region self.old.marks.items self.new.marks.items work.old work.new) }
     {
-        self.marks[region] = Mark::Fresh;
+        self.marks[region] = ChainState::Fresh;
         self.path.push(region)?;
         while let Some(at) = self.path.pop() {
             self.forget_below(same, below, at, work)?;

@@ -6,9 +6,9 @@ ghost use Rattle.region_scrub.specs.Indexes.{IsIndexed};
 ghost use Rattle.region_scrub.specs.Numbers.{HasFault, IsLeft, Links, fault_at, head_at, key_at, link_if};
 ghost use Rattle.region_scrub.specs.Stages.{Examined, IsLater, IsNext, IsSettled, IsStage, faults_by};
 
+use crate::chain_state::ChainState;
 use crate::fault::RegionFault;
 use crate::index::Index;
-use crate::mark::Mark;
 use crate::rooting::Rooting;
 use desk_base::OutOfMemory;
 use region_tree::{RegionDecl, kind_of_number};
@@ -173,7 +173,7 @@ impl<'a> Scrubber<'a> {
             .forget(&self.same, &self.below, region, &mut self.work)?;
         self.aside[region - 2] = Some(why);
         self.rooting.parents[region] = None;
-        self.rooting.marks[region] = Mark::Lost;
+        self.rooting.marks[region] = ChainState::Lost;
         let key = self.same.keys[region];
         if is_head(&self.heads, key, region) {
             if let Some(key) = key {

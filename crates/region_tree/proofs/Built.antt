@@ -5,7 +5,7 @@ use Rattle.std.specs.List.{slice_get}
 use Rattle.std.specs.Str.{bytes_eq}
 use Rattle.std.specs.BTreeMap.{BTreeMap}
 use Rattle.std.proofs.lemmas.Grind.{common_steps}
-use Rattle.region_tree.specs.declared.mark.Mark.{Mark}
+use Rattle.region_tree.specs.declared.chain_state.ChainState.{ChainState}
 use Rattle.region_tree.specs.declared.decl.RegionDecl.{RegionDecl}
 use Rattle.region_tree.specs.declared.decl.FieldPut.{FieldPut}
 use Rattle.region_tree.specs.Chains.{parent_at, IsRooted}
@@ -35,7 +35,7 @@ parents_within declared parents is k x e =
     let r = parent_decl declared k x (ap (λ (p : List (Option ℕ)). parent_at p k) (sym is) ∙ e) in
     omega (arith, number_below declared _ x r.5, names-parents declared, ap length is)
 
-pub tree_falls : (declared : List RegionDecl) (parents : List (Option ℕ)) (marks : List Mark) (next : ℕ) → parents ≡ parents_of declared
+pub tree_falls : (declared : List RegionDecl) (parents : List (Option ℕ)) (marks : List ChainState) (next : ℕ) → parents ≡ parents_of declared
     → Known parents marks next → AllGood declared (length declared) → (k x : ℕ) → parent_at parents k ≡ Some x
     → rank_of (mark_at marks x) < rank_of (mark_at marks k)
 tree_falls declared parents marks next is known good k x e =

@@ -6,21 +6,21 @@ use Rattle.std.proofs.lemmas.List.{get_or-set_same}
 use Rattle.std.proofs.lemmas.List.Sums.{sum_by-set}
 use Rattle.std.proofs.lemmas.Grind.{common_steps, elements}
 use Rattle.std.proofs.lemmas.List.{get_or_default}
-use Rattle.region_tree.specs.declared.mark.Mark.{Mark}
-use Rattle.region_tree.specs.declared.mark.Mark.TheVariants as mark
+use Rattle.region_tree.specs.declared.chain_state.ChainState.{ChainState}
+use Rattle.region_tree.specs.declared.chain_state.ChainState.TheVariants as mark
 use Rattle.region_tree.specs.Chains.{parent_at}
 use Rattle.region_tree.specs.Marks.{mark_at, open_weight, IsRanked, IsAbove, Marked, IsDown, LostClosed, LostFalls, OnPath, ClimbsTo, StaysBegun}
 
 -- a read after a write
-pub after_set : (marks : List Mark) (at k : ℕ) (m : Mark) → at < length marks
+pub after_set : (marks : List ChainState) (at k : ℕ) (m : ChainState) → at < length marks
     → ((k ≡ at) × (mark_at (set marks at m) k ≡ m)) ⊎ ((k ≢ at) × (mark_at (set marks at m) k ≡ mark_at marks k))
 after_set marks at k m within = grind (arith, common_steps, elements)
 
-pub set_here : (marks : List Mark) (at : ℕ) (m : Mark) → at < length marks → mark_at (set marks at m) at ≡ m
+pub set_here : (marks : List ChainState) (at : ℕ) (m : ChainState) → at < length marks → mark_at (set marks at m) at ≡ m
 set_here marks at m within = get_or-set_same marks at m mark.Fresh within
 
 -- a fresh region that is passed
-pub pass_marked : (parents : List (Option ℕ)) (marks : List Mark) (next at : ℕ) → Marked parents marks next → at < length marks
+pub pass_marked : (parents : List (Option ℕ)) (marks : List ChainState) (next at : ℕ) → Marked parents marks next → at < length marks
     → mark_at marks at ≡ mark.Fresh → Marked parents (set marks at mark.Passing) next
 pass_marked parents marks next at m within fresh = record {
   long = grind (arith, common_steps);
@@ -31,14 +31,14 @@ pass_marked parents marks next at m within fresh = record {
   room = grind (arith, common_steps, sum_by-set open_weight marks at mark.Passing mark.Fresh within, m.room);
 }
 
-pub pass_lost : (parents : List (Option ℕ)) (marks : List Mark) (at : ℕ) → LostClosed parents marks → at < length marks
+pub pass_lost : (parents : List (Option ℕ)) (marks : List ChainState) (at : ℕ) → LostClosed parents marks → at < length marks
     → mark_at marks at ≡ mark.Fresh → LostClosed parents (set marks at mark.Passing)
 pass_lost parents marks at m within fresh = record {
   lost = λ k x e p. grind (arith, after_set marks at k mark.Passing within, after_set marks at x mark.Passing within, m.lost k x);
 }
 
 -- a region is passed after the push where it is the pushed one or was passed before
-pass_whole : (marks : List Mark) (path : List ℕ) (at k : ℕ) → OnPath marks path → at < length marks
+pass_whole : (marks : List ChainState) (path : List ℕ) (at k : ℕ) → OnPath marks path → at < length marks
     → mark_at (set marks at mark.Passing) k ≡ mark.Passing
     → (i : ℕ) × (i < length (path ++ at ∷ [])) × (get_or (path ++ at ∷ []) i 0 ≡ k)
 pass_whole marks path at k m within e =
@@ -47,7 +47,7 @@ pass_whole marks path at k m within e =
       | inr h ↦ (let w = m.whole k (sym h.1 ∙ e) in (w.0, grind (arith, common_steps), grind (arith, common_steps)))
     ]
 
-pub pass_path : (marks : List Mark) (path : List ℕ) (at : ℕ) → OnPath marks path → at < length marks
+pub pass_path : (marks : List ChainState) (path : List ℕ) (at : ℕ) → OnPath marks path → at < length marks
     → mark_at marks at ≡ mark.Fresh → OnPath (set marks at mark.Passing) (path ++ at ∷ [])
 pass_path marks path at m within fresh = record {
   within = λ i low. grind (arith, common_steps, m.within i);
@@ -63,20 +63,20 @@ pass_climbs parents path at x m p = record {
 }
 
 -- what was begun stays begun after a write
-pub set_stays : (old marks : List Mark) (at : ℕ) (m : Mark) → StaysBegun old marks → at < length marks
+pub set_stays : (old marks : List ChainState) (at : ℕ) (m : ChainState) → StaysBegun old marks → at < length marks
     → m ≢ mark.Fresh → StaysBegun old (set marks at m)
 set_stays old marks at m s within begun = record {
   stays = λ k b f. s.stays k b (elim (after_set marks at k m within) [ inl h ↦ absurd (begun (sym h.1 ∙ f)) | inr h ↦ sym h.1 ∙ f ]);
 }
 
 -- the last region of the path
-pub top_within : (marks : List Mark) (path : List ℕ) (at : ℕ) → OnPath marks (path ++ at ∷ []) → at < length marks
+pub top_within : (marks : List ChainState) (path : List ℕ) (at : ℕ) → OnPath marks (path ++ at ∷ []) → at < length marks
 top_within marks path at m = grind (arith, common_steps, m.within (length path))
 
-pub top_passing : (marks : List Mark) (path : List ℕ) (at : ℕ) → OnPath marks (path ++ at ∷ []) → mark_at marks at ≡ mark.Passing
+pub top_passing : (marks : List ChainState) (path : List ℕ) (at : ℕ) → OnPath marks (path ++ at ∷ []) → mark_at marks at ≡ mark.Passing
 top_passing marks path at m = grind (arith, common_steps, m.passing (length path))
 
-pop_whole : (marks : List Mark) (path : List ℕ) (at k : ℕ) (m : Mark) → OnPath marks (path ++ at ∷ []) → m ≢ mark.Passing
+pop_whole : (marks : List ChainState) (path : List ℕ) (at k : ℕ) (m : ChainState) → OnPath marks (path ++ at ∷ []) → m ≢ mark.Passing
     → mark_at (set marks at m) k ≡ mark.Passing → (i : ℕ) × (i < length path) × (get_or path i 0 ≡ k)
 pop_whole marks path at k m on other e =
     elim (after_set marks at k m (top_within marks path at on)) [
@@ -85,7 +85,7 @@ pop_whole marks path at k m on other e =
     ]
 
 -- the path without its last region, which is passed no more
-pub pop_path : (marks : List Mark) (path : List ℕ) (at : ℕ) (m : Mark) → OnPath marks (path ++ at ∷ []) → m ≢ mark.Passing
+pub pop_path : (marks : List ChainState) (path : List ℕ) (at : ℕ) (m : ChainState) → OnPath marks (path ++ at ∷ []) → m ≢ mark.Passing
     → OnPath (set marks at m) path
 pop_path marks path at m on other = record {
   within = λ i low. grind (arith, common_steps, on.within i);
@@ -95,7 +95,7 @@ pop_path marks path at m on other = record {
 }
 
 -- a passed region whose parent is ranked takes the next rank
-pub rank_marked : (parents : List (Option ℕ)) (marks : List Mark) (next at end : ℕ) → Marked parents marks next → at < length marks
+pub rank_marked : (parents : List (Option ℕ)) (marks : List ChainState) (next at end : ℕ) → Marked parents marks next → at < length marks
     → mark_at marks at ≡ mark.Passing → IsRanked marks end → parent_at parents at ≡ Some end
     → Marked parents (set marks at (mark.Ranked next)) (next + 1)
 rank_marked parents marks next at end m within passing ranked parent = record {
@@ -107,7 +107,7 @@ rank_marked parents marks next at end m within passing ranked parent = record {
   room = grind (arith, common_steps, sum_by-set open_weight marks at (mark.Ranked next) mark.Fresh within, m.room);
 }
   where
-    new : List Mark
+    new : List ChainState
     new = set marks at (mark.Ranked next)
 
     rank_roots : (k : ℕ) → k < 2 → IsRanked (set marks at (mark.Ranked next)) k
@@ -132,7 +132,7 @@ rank_marked parents marks next at end m within passing ranked parent = record {
           ]
         ]
 
-pub rank_lost : (parents : List (Option ℕ)) (marks : List Mark) (next at : ℕ) → LostClosed parents marks → at < length marks
+pub rank_lost : (parents : List (Option ℕ)) (marks : List ChainState) (next at : ℕ) → LostClosed parents marks → at < length marks
     → mark_at marks at ≡ mark.Passing → LostClosed parents (set marks at (mark.Ranked next))
 rank_lost parents marks next at m within passing = record {
   lost = λ k x e p. grind (arith, after_set marks at k (mark.Ranked next) within, after_set marks at x (mark.Ranked next) within, m.lost k x);
@@ -150,7 +150,7 @@ pub top_parent : (parents : List (Option ℕ)) (path : List ℕ) (at end : ℕ) 
 top_parent parents path at end m = grind (arith, common_steps, m.climbs (length path))
 
 -- a passed region is lost
-pub lose_marked : (parents : List (Option ℕ)) (marks : List Mark) (next at : ℕ) → Marked parents marks next → at < length marks
+pub lose_marked : (parents : List (Option ℕ)) (marks : List ChainState) (next at : ℕ) → Marked parents marks next → at < length marks
     → mark_at marks at ≡ mark.Passing → Marked parents (set marks at mark.Lost) next
 lose_marked parents marks next at m within passing = record {
   long = grind (arith, common_steps, m.long);
@@ -161,14 +161,14 @@ lose_marked parents marks next at m within passing = record {
   room = grind (arith, common_steps, sum_by-set open_weight marks at mark.Lost mark.Fresh within, m.room);
 }
 
-lose_down : (marks : List Mark) (at x : ℕ) → at < length marks → IsDown marks x → IsDown (set marks at mark.Lost) x
+lose_down : (marks : List ChainState) (at x : ℕ) → at < length marks → IsDown marks x → IsDown (set marks at mark.Lost) x
 lose_down marks at x within down =
     elim (after_set marks at x mark.Lost within) [
       | inl h ↦ inl h.1
       | inr h ↦ elim down [ inl e ↦ inl (h.1 ∙ e) | inr e ↦ inr (h.1 ∙ e) ]
     ]
 
-pub lose_falls : (parents : List (Option ℕ)) (marks : List Mark) (path : List ℕ) (at : ℕ)
+pub lose_falls : (parents : List (Option ℕ)) (marks : List ChainState) (path : List ℕ) (at : ℕ)
     → LostFalls parents marks (path ++ at ∷ []) → at < length marks → LostFalls parents (set marks at mark.Lost) path
 lose_falls parents marks path at m within = record {
   lost = λ k x e p. lose_down marks at x within (lost_parent k x e p);
@@ -183,7 +183,7 @@ lose_falls parents marks path at m within = record {
         ]
 
 -- where the path leads to a region that is down, all of it falls
-pub climb_falls : (parents : List (Option ℕ)) (marks : List Mark) (path : List ℕ) (end : ℕ) → LostClosed parents marks
+pub climb_falls : (parents : List (Option ℕ)) (marks : List ChainState) (path : List ℕ) (end : ℕ) → LostClosed parents marks
     → OnPath marks path → ClimbsTo parents path end → IsDown marks end → LostFalls parents marks path
 climb_falls parents marks path end closed on climbs down = record {
   lost = λ k x e p. inl (closed.lost k x e p);
@@ -191,7 +191,7 @@ climb_falls parents marks path end closed on climbs down = record {
 }
 
 -- where the last region has no parent, all of the path falls
-pub end_falls : (parents : List (Option ℕ)) (marks : List Mark) (path : List ℕ) (at : ℕ) → LostClosed parents marks
+pub end_falls : (parents : List (Option ℕ)) (marks : List ChainState) (path : List ℕ) (at : ℕ) → LostClosed parents marks
     → OnPath marks (path ++ at ∷ []) → ClimbsTo parents path at → parent_at parents at ≡ None
     → LostFalls parents marks (path ++ at ∷ [])
 end_falls parents marks path at closed on climbs none = record {
@@ -215,7 +215,7 @@ pub passing-not-fresh : mark.Passing ≢ mark.Fresh
 passing-not-fresh = λ e. cc
 
 -- what an index in range reads
-pub mark_read : (marks : List Mark) (at : ℕ) (read m : Mark) → at < length marks → read ≡ get_or marks at read → read ≡ m → mark_at marks at ≡ m
+pub mark_read : (marks : List ChainState) (at : ℕ) (read m : ChainState) → at < length marks → read ≡ get_or marks at read → read ≡ m → mark_at marks at ≡ m
 mark_read marks at read m within e is = grind (arith, get_or_default)
 
 pub parent_read : (parents : List (Option ℕ)) (at : ℕ) (read p : Option ℕ) → at < length parents → read ≡ get_or parents at read → read ≡ p
@@ -223,7 +223,7 @@ pub parent_read : (parents : List (Option ℕ)) (at : ℕ) (read p : Option ℕ)
 parent_read parents at read p within e is = grind (arith, get_or_default)
 
 -- the region after a pass of `at` has been begun, if it had been begun before or is `at`
-pub pass_begun : (marks : List Mark) (at start : ℕ) → at < length marks → (at ≡ start) ⊎ (mark_at marks start ≢ mark.Fresh)
+pub pass_begun : (marks : List ChainState) (at start : ℕ) → at < length marks → (at ≡ start) ⊎ (mark_at marks start ≢ mark.Fresh)
     → mark_at (set marks at mark.Passing) start ≢ mark.Fresh
 pass_begun marks at start within begun =
     elim (after_set marks at start mark.Passing within) [
@@ -232,17 +232,17 @@ pass_begun marks at start within begun =
     ]
 
 -- a mark that is neither fresh nor ranked
-pub down_of : (marks : List Mark) (x : ℕ) → mark_at marks x ≢ mark.Fresh → ((r : ℕ) → mark_at marks x ≢ mark.Ranked r) → IsDown marks x
+pub down_of : (marks : List ChainState) (x : ℕ) → mark_at marks x ≢ mark.Fresh → ((r : ℕ) → mark_at marks x ≢ mark.Ranked r) → IsDown marks x
 down_of marks x fresh ranked = go (mark_at marks x) refl
   where
-    go : (m : Mark) → mark_at marks x ≡ m → IsDown marks x
+    go : (m : ChainState) → mark_at marks x ≡ m → IsDown marks x
     go mark.Fresh e = absurd (fresh e)
     go mark.Passing e = inr e
     go mark.Lost e = inl e
     go (mark.Ranked r) e = absurd (ranked r e)
 
 -- the same facts of a path that is the old one with a region more
-pub pass_path_to : (marks : List Mark) (path pushed : List ℕ) (at : ℕ) → pushed ≡ path ++ at ∷ [] → OnPath marks path → at < length marks
+pub pass_path_to : (marks : List ChainState) (path pushed : List ℕ) (at : ℕ) → pushed ≡ path ++ at ∷ [] → OnPath marks path → at < length marks
     → mark_at marks at ≡ mark.Fresh → OnPath (set marks at mark.Passing) pushed
 pass_path_to marks path pushed at e on within fresh =
     subst (λ (p : List ℕ). OnPath (set marks at mark.Passing) p) (sym e) (pass_path marks path at on within fresh)
@@ -252,19 +252,19 @@ pub pass_climbs_to : (parents : List (Option ℕ)) (path pushed : List ℕ) (at 
 pass_climbs_to parents path pushed at x e climbs parent =
     subst (λ (p : List ℕ). ClimbsTo parents p x) (sym e) (pass_climbs parents path at x climbs parent)
 
-pub end_falls_to : (parents : List (Option ℕ)) (marks : List Mark) (path pushed : List ℕ) (at : ℕ) → pushed ≡ path ++ at ∷ []
+pub end_falls_to : (parents : List (Option ℕ)) (marks : List ChainState) (path pushed : List ℕ) (at : ℕ) → pushed ≡ path ++ at ∷ []
     → LostClosed parents marks → OnPath marks (path ++ at ∷ []) → ClimbsTo parents path at → parent_at parents at ≡ None
     → LostFalls parents marks pushed
 end_falls_to parents marks path pushed at e closed on climbs none =
     subst (λ (p : List ℕ). LostFalls parents marks p) (sym e) (end_falls parents marks path at closed on climbs none)
 
-pub parent_within : (parents : List (Option ℕ)) (marks : List Mark) (next at x : ℕ) (m : Mark) → Marked parents marks next
+pub parent_within : (parents : List (Option ℕ)) (marks : List ChainState) (next at x : ℕ) (m : ChainState) → Marked parents marks next
     → parent_at parents at ≡ Some x → x < length (set marks at m)
 parent_within parents marks next at x m marked parent = grind (arith, common_steps, marked.within at x parent, marked.long)
 
-pub mark_is : (marks : List Mark) (at : ℕ) (read : Mark) → at < length marks → read ≡ get_or marks at read → mark_at marks at ≡ read
+pub mark_is : (marks : List ChainState) (at : ℕ) (read : ChainState) → at < length marks → read ≡ get_or marks at read → mark_at marks at ≡ read
 mark_is marks at read within e = grind (arith, get_or_default)
 
-pub start_begun : (marks : List Mark) (at start : ℕ) → (at ≡ start) ⊎ (mark_at marks start ≢ mark.Fresh) → mark_at marks at ≢ mark.Fresh
+pub start_begun : (marks : List ChainState) (at start : ℕ) → (at ≡ start) ⊎ (mark_at marks start ≢ mark.Fresh) → mark_at marks at ≢ mark.Fresh
     → mark_at marks start ≢ mark.Fresh
 start_begun marks at start begun here = elim begun [ inl same ↦ subst (λ (k : ℕ). mark_at marks k ≢ mark.Fresh) same here | inr b ↦ b ]

@@ -1,8 +1,8 @@
 -- What settled marks say of chains.
 use Rattle.std.proofs.Common.{◌≡◌, ◌≢◌, ℕ, zero, suc, ◌<◌, ◌≤◌, List, [], ◌∷◌, length, refl, sym, ◌∙◌, ap, subst, inl, inr, arith, ◌⊎◌, eqb-true, eq-eqb}
 use Rattle.std.specs.Prelude.{Option, Some, None, IsTrue, ◌==◌}
-use Rattle.region_tree.specs.declared.mark.Mark.{Mark}
-use Rattle.region_tree.specs.declared.mark.Mark.TheVariants as mark
+use Rattle.region_tree.specs.declared.chain_state.ChainState.{ChainState}
+use Rattle.region_tree.specs.declared.chain_state.ChainState.TheVariants as mark
 use Rattle.region_tree.specs.Chains.{parent_at, Leads, IsUnder, IsRooted}
 use Rattle.region_tree.specs.Marks.{mark_at, rank_of, IsRanked, Marked, LostClosed, Known}
 
@@ -14,7 +14,7 @@ pub under_step : (parents : List (Option ℕ)) (a x b : ℕ) → parent_at paren
 unfolding IsUnder
 under_step parents a x b p u = (x ∷ u.0, (p, u.1))
 
-rooted_within : (parents : List (Option ℕ)) (marks : List Mark) (next : ℕ) → Marked parents marks next → (n k r : ℕ) → r < n
+rooted_within : (parents : List (Option ℕ)) (marks : List ChainState) (next : ℕ) → Marked parents marks next → (n k r : ℕ) → r < n
     → mark_at marks k ≡ mark.Ranked r → IsRooted parents k
 unfolding IsRooted
 rooted_within parents marks next m zero k r less e = absurd (omega arith)
@@ -25,11 +25,11 @@ rooted_within parents marks next m (suc n) k r less e =
           (up.0, up.1, under_step parents k a.0 up.0 a.2 up.2))
     ]
 
-pub ranked_rooted : (parents : List (Option ℕ)) (marks : List Mark) (next k r : ℕ) → Marked parents marks next
+pub ranked_rooted : (parents : List (Option ℕ)) (marks : List ChainState) (next k r : ℕ) → Marked parents marks next
     → mark_at marks k ≡ mark.Ranked r → IsRooted parents k
 ranked_rooted parents marks next k r m e = rooted_within parents marks next m (suc r) k r (omega arith) e
 
-lost_chain : (parents : List (Option ℕ)) (marks : List Mark) (next root : ℕ) → Marked parents marks next → LostClosed parents marks
+lost_chain : (parents : List (Option ℕ)) (marks : List ChainState) (next root : ℕ) → Marked parents marks next → LostClosed parents marks
     → root < 2 → (chain : List ℕ) (k : ℕ) → mark_at marks k ≡ mark.Lost → Leads parents k chain root → ⊥
 lost_chain parents marks next root m closed low [] k e leads =
     let ranked = m.roots root low in
@@ -37,17 +37,17 @@ lost_chain parents marks next root m closed low [] k e leads =
 lost_chain parents marks next root m closed low (x ∷ chain) k e leads =
     lost_chain parents marks next root m closed low chain x (closed.lost k x e leads.0) leads.1
 
-pub lost_unrooted : (parents : List (Option ℕ)) (marks : List Mark) (next k : ℕ) → Marked parents marks next → LostClosed parents marks
+pub lost_unrooted : (parents : List (Option ℕ)) (marks : List ChainState) (next k : ℕ) → Marked parents marks next → LostClosed parents marks
     → mark_at marks k ≡ mark.Lost → ¬ (IsRooted parents k)
 unfolding IsRooted IsUnder
 lost_unrooted parents marks next k m closed e = λ r. lost_chain parents marks next r.0 m closed r.1 r.2.0 k e r.2.1
 
 -- a settled region that is not ranked is lost
-pub unranked_lost : (parents : List (Option ℕ)) (marks : List Mark) (next k : ℕ) → Known parents marks next → k < length marks
+pub unranked_lost : (parents : List (Option ℕ)) (marks : List ChainState) (next k : ℕ) → Known parents marks next → k < length marks
     → ((r : ℕ) → mark_at marks k ≢ mark.Ranked r) → mark_at marks k ≡ mark.Lost
 unranked_lost parents marks next k known within unranked = go (mark_at marks k) refl
   where
-    go : (m : Mark) → mark_at marks k ≡ m → mark_at marks k ≡ mark.Lost
+    go : (m : ChainState) → mark_at marks k ≡ m → mark_at marks k ≡ mark.Lost
     go mark.Fresh e = absurd (known.begun k within e)
     go mark.Passing e = absurd (known.settled.settled k e)
     go mark.Lost e = e
@@ -92,17 +92,17 @@ none_back parents rank a b higher none u =
       | inr up ↦ (let both = sym none ∙ up.1 in cc)
     ]
 
-ranked_of : (parents : List (Option ℕ)) (marks : List Mark) (next k : ℕ) → Known parents marks next → k < length marks → IsRooted parents k → IsRanked marks k
+ranked_of : (parents : List (Option ℕ)) (marks : List ChainState) (next k : ℕ) → Known parents marks next → k < length marks → IsRooted parents k → IsRanked marks k
 ranked_of parents marks next k known within rooted = go (mark_at marks k) refl
   where
-    go : (m : Mark) → mark_at marks k ≡ m → IsRanked marks k
+    go : (m : ChainState) → mark_at marks k ≡ m → IsRanked marks k
     go mark.Fresh e = absurd (known.begun k within e)
     go mark.Passing e = absurd (known.settled.settled k e)
     go mark.Lost e = absurd (lost_unrooted parents marks next k known.marked known.lost e rooted)
     go (mark.Ranked r) e = (r, e)
 
 -- where a region's chain reaches a root, its parent has a lower rank
-pub rooted_falls : (parents : List (Option ℕ)) (marks : List Mark) (next k x : ℕ) → Known parents marks next → k < length marks → 2 ≤ k → IsRooted parents k
+pub rooted_falls : (parents : List (Option ℕ)) (marks : List ChainState) (next k x : ℕ) → Known parents marks next → k < length marks → 2 ≤ k → IsRooted parents k
     → parent_at parents k ≡ Some x → rank_of (mark_at marks x) < rank_of (mark_at marks k)
 rooted_falls parents marks next k x known within low rooted p =
     let r = ranked_of parents marks next k known within rooted in
@@ -118,7 +118,7 @@ rooted_falls parents marks next k x known within low rooted p =
 pub from_goal : (parents : List (Option ℕ)) (a b : ℕ) → IsTrue (a == b) → IsUnder parents a b
 from_goal parents a b same = subst (λ (z : ℕ). IsUnder parents a z) (eqb-true a b same) (under_same parents a)
 
-pub at_goal : (parents : List (Option ℕ)) (marks : List Mark) (a b : ℕ)
+pub at_goal : (parents : List (Option ℕ)) (marks : List ChainState) (a b : ℕ)
     → ((k x : ℕ) → parent_at parents k ≡ Some x → rank_of (mark_at marks x) < rank_of (mark_at marks k))
     → rank_of (mark_at marks a) ≤ rank_of (mark_at marks b) → IsUnder parents a b → IsTrue (a == b)
 at_goal parents marks a b falls low u =

@@ -1,10 +1,10 @@
 ghost use Rattle.std.specs.Prelude.{◌≡◌, ◌≢◌, ◌↔◌, ℕ, [], ◌<◌, ◌≤◌, length, IfOk, IsTrue, None, OnOk, Some, replicate};
 ghost use Rattle.std.specs.Bool.{OnTrue, OnFalse};
-ghost use Rattle.region_tree.specs.declared.mark.Mark.TheVariants.{Fresh};
+ghost use Rattle.region_tree.specs.declared.chain_state.ChainState.TheVariants.{Fresh};
 ghost use Rattle.region_tree.specs.Marks.{mark_at, Known, Marked, LostClosed, LostFalls, OnPath, ClimbsToRank, IsSettled, StaysBegun};
 ghost use Rattle.region_tree.specs.Chains.{IsRooted, parent_at};
 
-use crate::mark::Mark;
+use crate::chain_state::ChainState;
 use desk_base::OutOfMemory;
 use std::alloc::Global;
 
@@ -12,7 +12,7 @@ use std::alloc::Global;
 #[derive(Drop)]
 pub(crate) struct Climber {
     pub(crate) parents: Vec<Option<usize>>,
-    pub(crate) marks: Vec<Mark>,
+    pub(crate) marks: Vec<ChainState>,
     path: Vec<usize>,
     next: usize,
 }
@@ -36,15 +36,15 @@ impl Climber {
         ensures stays { OnOk result (StaysBegun self.old.marks.items self.new.marks.items) }
     {
         let mut at = start;
-        while let Mark::Fresh = self.marks[at] {
+        while let ChainState::Fresh = self.marks[at] {
             self.path.push(at)?;
-            self.marks[at] = Mark::Passing;
+            self.marks[at] = ChainState::Passing;
             match self.parents[at] {
                 Some(parent) => at = parent,
                 None => return Ok(false),
             }
         }
-        Ok(matches!(self.marks[at], Mark::Ranked(_)))
+        Ok(matches!(self.marks[at], ChainState::Ranked(_)))
     }
 
     // Ranks the regions of the path, which leads to a ranked one, from there down.
@@ -61,7 +61,7 @@ impl Climber {
         ensures stays { StaysBegun self.old.marks.items self.new.marks.items }
     {
         while let Some(region) = self.path.pop() {
-            self.marks[region] = Mark::Ranked(self.next);
+            self.marks[region] = ChainState::Ranked(self.next);
             self.next += 1;
         }
     }
@@ -79,7 +79,7 @@ impl Climber {
         ensures stays { StaysBegun self.old.marks.items self.new.marks.items }
     {
         while let Some(region) = self.path.pop() {
-            self.marks[region] = Mark::Lost;
+            self.marks[region] = ChainState::Lost;
         }
     }
 
@@ -128,8 +128,8 @@ impl Climber {
         ensures known { IfOk result (λ c. Known c.parents.items c.marks.items c.next) }
     {
         let mut marks = fresh_marks(alloc, parents.len())?;
-        marks[0] = Mark::Ranked(0);
-        marks[1] = Mark::Ranked(0);
+        marks[0] = ChainState::Ranked(0);
+        marks[1] = ChainState::Ranked(0);
         let mut climber = Climber {
             parents,
             marks,
@@ -141,7 +141,7 @@ impl Climber {
     }
 
     /// The parents, and what is known of each region.
-    pub(crate) fn into_parts(self) -> (Vec<Option<usize>>, Vec<Mark>)
+    pub(crate) fn into_parts(self) -> (Vec<Option<usize>>, Vec<ChainState>)
         ensures parents { result.0.items ≡ self.parents.items }
         ensures marks { result.1.items ≡ self.marks.items }
     {
@@ -160,16 +160,16 @@ impl Climber {
         requires within { region < length self.now.parents.items }
         ensures { IsTrue result ↔ IsRooted self.now.parents.items region }
     {
-        matches!(self.marks[region], Mark::Ranked(_))
+        matches!(self.marks[region], ChainState::Ranked(_))
     }
 }
 
-fn fresh_marks(alloc: Global, count: usize) -> Result<Vec<Mark>, OutOfMemory>
+fn fresh_marks(alloc: Global, count: usize) -> Result<Vec<ChainState>, OutOfMemory>
     ensures { IfOk result (λ marks. marks.items ≡ replicate count Fresh) }
 {
     let mut marks = Vec::new(alloc);
     for _i in 0..count {
-        marks.push(Mark::Fresh)?;
+        marks.push(ChainState::Fresh)?;
     }
     Ok(marks)
 }

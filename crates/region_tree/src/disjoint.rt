@@ -10,7 +10,7 @@ use std::alloc::Global;
 // How a region stands to those that are held: it is one; one is below it; one is above it; or none
 // is below it, and it is not known whether one is above.
 #[derive(Clone, Copy, Debug)]
-pub(crate) enum Standing {
+pub(crate) enum HeldState {
     Free,
     Held,
     Over,
@@ -20,7 +20,7 @@ pub(crate) enum Standing {
 /// Regions of one tree of which none is under another.
 #[derive(Drop)]
 pub struct DisjointRegions {
-    standings: Vec<Standing>,
+    states: Vec<HeldState>,
 }
 
 impl DisjointRegions {
@@ -29,39 +29,39 @@ impl DisjointRegions {
         ensures of { IfOk result (AreOf (parents_in tree.now)) }
         ensures none { IfOk result (λ regions. (k : ℕ) → IsHeld regions k → ⊥) }
     {
-        let mut standings = Vec::new(alloc);
+        let mut states = Vec::new(alloc);
         for _i in 0..tree.parents.len() {
-            standings.push(Standing::Free)?;
+            states.push(HeldState::Free)?;
         }
-        Ok(DisjointRegions { standings })
+        Ok(DisjointRegions { states })
     }
 
     // Whether the region is under one that is held. It climbs through free regions alone.
     fn is_under_held(&self, tree: &RegionTree, start: usize) -> bool
         requires of { AreOf (parents_in tree.now) self.now }
         requires within { start < length (parents_in tree.now) }
-        ensures some { OnTrue result (UnderHeld (parents_in tree.now) self.now.standings.items start) }
-        ensures none { OnFalse result (UnderHeld (parents_in tree.now) self.now.standings.items start → ⊥) }
+        ensures some { OnTrue result (UnderHeld (parents_in tree.now) self.now.states.items start) }
+        ensures none { OnFalse result (UnderHeld (parents_in tree.now) self.now.states.items start → ⊥) }
     {
         let mut at = start;
-        while let Standing::Free = self.standings[at] {
+        while let HeldState::Free = self.states[at] {
             match tree.parents[at] {
                 Some(parent) => at = parent,
                 None => return false,
             }
         }
-        matches!(self.standings[at], Standing::Held | Standing::Under)
+        matches!(self.states[at], HeldState::Held | HeldState::Under)
     }
 
     // Gives the standing to the free regions on the way up from this one.
-    fn mark_up(&mut self, tree: &RegionTree, start: usize, given: Standing)
-        requires long { length self.old.standings.items ≡ length (parents_in tree.now) }
+    fn mark_up(&mut self, tree: &RegionTree, start: usize, given: HeldState)
+        requires long { length self.old.states.items ≡ length (parents_in tree.now) }
         requires within { start < length (parents_in tree.now) }
-        ensures { MarksUp (parents_in tree.now) self.old.standings.items self.new.standings.items start given }
+        ensures { MarksUp (parents_in tree.now) self.old.states.items self.new.states.items start given }
     {
         let mut at = start;
-        while let Standing::Free = self.standings[at] {
-            self.standings[at] = given;
+        while let HeldState::Free = self.states[at] {
+            self.states[at] = given;
             match tree.parents[at] {
                 Some(parent) => at = parent,
                 None => return,
@@ -80,15 +80,15 @@ impl DisjointRegions {
         ensures of { AreOf (parents_in tree.now) self.new }
     {
         let start = region.number;
-        let Standing::Free = self.standings[start] else {
+        let HeldState::Free = self.states[start] else {
             return false;
         };
         if self.is_under_held(tree, start) {
-            self.mark_up(tree, start, Standing::Under);
+            self.mark_up(tree, start, HeldState::Under);
             return false;
         }
-        self.mark_up(tree, start, Standing::Over);
-        self.standings[start] = Standing::Held;
+        self.mark_up(tree, start, HeldState::Over);
+        self.states[start] = HeldState::Held;
         true
     }
 }

@@ -2,13 +2,13 @@
 //! which. It knows nothing of Java's text nor of locks.
 #![tactic(auto)]
 
+mod chain_state;
 mod check;
 mod climb;
 mod decl;
 mod disjoint;
 mod fault;
 mod make;
-mod mark;
 mod names;
 mod place;
 mod tree;

@@ -22,7 +22,7 @@ pub(crate) fn put_first(
     Ok(())
 }
 
-// The numbers of all regions; a name has that of the first one.
+/// The numbers of all regions; a name has that of the first one.
 pub fn number_names(
     alloc: Global,
     declared: &[RegionDecl],
@@ -52,6 +52,7 @@ pub(crate) fn number_written(
     }
 }
 
+/// Whether the region of a number is static, where there is one.
 pub fn kind_of_number(declared: &[RegionDecl], number: usize) -> Option<bool>
     ensures { result ≡ slice_get (region_kinds declared.now) number }
 {
@@ -76,7 +77,7 @@ pub(crate) fn kind_written(
     kind_of_number(declared, number)
 }
 
-// The parents of all regions by their numbers.
+/// The parents of all regions by their numbers.
 pub fn find_parents(
     alloc: Global,
     declared: &[RegionDecl],

@@ -3,7 +3,7 @@ ghost use Rattle.region_tree.specs.Chains.{parent_at};
 ghost use Rattle.region_tree.specs.Marks.{mark_at, rank_of};
 ghost use Rattle.region_tree.specs.Names.{number_at};
 
-use crate::mark::Mark;
+use crate::chain_state::ChainState;
 use desk_base::Name;
 use std::collections::BTreeMap;
 
@@ -19,7 +19,7 @@ pub struct RegionTree {
     pub(crate) numbers: BTreeMap<Name, usize>,
     pub(crate) places: BTreeMap<Name, usize>,
     pub(crate) parents: Vec<Option<usize>>,
-    pub(crate) marks: Vec<Mark>,
+    pub(crate) marks: Vec<ChainState>,
     ghost long: { length marks.items ≡ length parents.items },
     ghost within: { (k x : ℕ) → parent_at parents.items k ≡ Some x → x < length parents.items },
     ghost falls: { (k x : ℕ) → parent_at parents.items k ≡ Some x
@@ -56,7 +56,7 @@ impl RegionTree {
         ensures { result ≡ rank_of (mark_at self.now.marks.items region) }
     {
         match self.marks[region] {
-            Mark::Ranked(rank) => rank,
+            ChainState::Ranked(rank) => rank,
             _ => 0,
         }
     }

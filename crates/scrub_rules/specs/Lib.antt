@@ -1,5 +1,6 @@
 pub mod Code
-pub mod Detail
+pub mod Facts
+pub mod Offers
 pub mod Place
 pub mod Scope
 pub mod Target

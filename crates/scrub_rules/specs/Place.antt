@@ -14,8 +14,8 @@ use Rattle.promise_grammar.specs.declared.tree.PromiseTree.{PromiseTree, out-Pro
 use Rattle.promise_grammar.specs.declared.tree.PromiseTree.TheOpen.{PromiseTree-F}
 use Rattle.promise_grammar.specs.declared.mark.UniqueContent.TheVariants as unique_at
 use Rattle.promise_grammar.specs.declared.mark.BorrowedContent.TheVariants as borrowed_at
-use Rattle.scrub_rules.specs.declared.code.ScrubCode.{ScrubCode}
-use Rattle.scrub_rules.specs.declared.code.ScrubCode.TheVariants as scrub
+use Rattle.result_records.specs.declared.code.FindingCode.{FindingCode}
+use Rattle.result_records.specs.declared.code.FindingCode.TheVariants as scrub
 use Rattle.scrub_rules.specs.declared.place.SiteKind.{SiteKind}
 use Rattle.scrub_rules.specs.declared.place.SiteKind.TheVariants as at
 use Rattle.scrub_rules.specs.declared.place.TypeSort.{TypeSort}
@@ -149,10 +149,10 @@ form_allows (PromiseTree-F.Assume inner member) = may_assume (out-PromiseTree in
 form_allows _ = true
 
 -- the code of an annotation whose content is spelled, by its place and form alone
-abbrev pub place_code : Site → PromiseTree-F PromiseTree → Option ScrubCode
+abbrev pub place_code : Site → PromiseTree-F PromiseTree → Option FindingCode
 place_code s tree = if stands_on s tree && form_allows tree then None else Some scrub.BadPlace
 
 -- the code of an annotation by its own content and place alone
-abbrev pub first_code : Site → Option PromiseTree → Option ScrubCode
+abbrev pub first_code : Site → Option PromiseTree → Option FindingCode
 first_code s None = Some scrub.BadContent
 first_code s (Some tree) = place_code s (out-PromiseTree tree)

@@ -1,5 +1,5 @@
 ghost use Rattle.std.specs.Prelude.{◌≡◌, IfOk};
-ghost use Rattle.scrub_rules.specs.Detail as spec;
+ghost use Rattle.scrub_rules.specs.Offers as spec;
 
 use desk_base::{Items, Name, OutOfMemory};
 use promise_grammar::{
@@ -49,8 +49,7 @@ fn copied_lock(lock: &RegionLockContent) -> Result<RegionLockContent, OutOfMemor
     })
 }
 
-/// A copy of one item of a list of locks.
-pub fn copied_item(item: &LockItem) -> Result<LockItem, OutOfMemory>
+fn copied_item(item: &LockItem) -> Result<LockItem, OutOfMemory>
     ensures { IfOk result (λ copy. copy ≡ item.now) }
 {
     match item {
@@ -112,7 +111,7 @@ fn copied_effects(alloc: Global, effects: &EffectsContent) -> Result<EffectsCont
     })
 }
 
-/// A copy of a content that holds no other one, as all contents that stand or are assumed are;
+/// A copy of a content that holds no other one, as all contents that are spread or assumed are;
 /// `None` for a content that holds another one.
 pub fn copied(alloc: Global, tree: &PromiseTree) -> Result<Option<PromiseTree>, OutOfMemory>
     ensures { IfOk result (λ copy. copy ≡ spec.flat tree.now) }

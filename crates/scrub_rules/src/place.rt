@@ -3,11 +3,11 @@ ghost use Rattle.std.specs.Option.{option_copied};
 ghost use Rattle.promise_grammar.specs.declared.tree.PromiseTree.{out-PromiseTree};
 ghost use Rattle.scrub_rules.specs.Place as spec;
 
-use crate::code::ScrubCode;
 use class_faces::is_static;
 use desk_base::Name;
 use java_tree::{MemberTree, Param, Ty, TypeKind};
-use promise_grammar::{BorrowedContent, PromiseTree, UniqueContent};
+use promise_grammar::{BorrowedContent, PromiseTree, Shared, UniqueContent};
+use result_records::FindingCode;
 
 /// What an annotation stands on: the header of a class or interface, a member, or a parameter.
 #[derive(Clone, Copy, Debug, PartialEq, Eq)]
@@ -230,22 +230,22 @@ fn form_allows(tree: &PromiseTree) -> bool
 /// The code of an annotation whose content is spelled, by its place and form alone: `BadPlace`
 /// where it stands on nothing that the promise may stand on, or gives a promise that its form
 /// doesn't allow.
-pub fn place_code(at: Site, tree: &PromiseTree) -> Option<ScrubCode>
+pub fn place_code(at: Site, tree: &PromiseTree) -> Option<FindingCode>
     ensures { result ≡ spec.place_code at (out-PromiseTree tree.now) }
 {
     if stands_on(at, tree) && form_allows(tree) {
         None
     } else {
-        Some(ScrubCode::BadPlace)
+        Some(FindingCode::BadPlace)
     }
 }
 
 /// The same of any annotation: `BadContent` where the content isn't spelled.
-pub fn first_code(at: Site, tree: &Option<PromiseTree>) -> Option<ScrubCode>
+pub fn first_code(at: Site, tree: &Option<Shared<PromiseTree>>) -> Option<FindingCode>
     ensures { result ≡ spec.first_code at tree.now }
 {
     match tree {
-        None => Some(ScrubCode::BadContent),
-        Some(tree) => place_code(at, tree),
+        None => Some(FindingCode::BadContent),
+        Some(tree) => place_code(at, tree.get()),
     }
 }

@@ -4,25 +4,25 @@ ghost use Rattle.scrub_rules.specs.Code as codes;
 ghost use Rattle.scrub_rules.specs.Target as spec;
 ghost use Rattle.scrub_rules.specs.Target.{kinds_in};
 
-use crate::code::ScrubCode;
 use class_faces::{FaceTy, ParamFace};
 use desk_base::Name;
 use promise_grammar::{EffectTarget, EffectsContent, LockItem};
+use result_records::FindingCode;
 use std::collections::BTreeMap;
 
 /// What a name in a promise of a member is looked up in: the class's own locks, or its own regions,
 /// with whether each is static; the class's name; whether the member has a `this`; and its
 /// parameters.
 #[derive(Clone, Copy)]
-pub struct Lookup<'a> {
-    pub kinds: &'a BTreeMap<Name, bool>,
-    pub class: &'a Name,
-    pub has_this: bool,
-    pub params: &'a [ParamFace],
+pub(crate) struct Lookup<'a> {
+    pub(crate) kinds: &'a BTreeMap<Name, bool>,
+    pub(crate) class: &'a Name,
+    pub(crate) has_this: bool,
+    pub(crate) params: &'a [ParamFace],
 }
 
 /// The code that counts of two: the first in the order of the tests.
-pub fn least(a: Option<ScrubCode>, b: Option<ScrubCode>) -> Option<ScrubCode>
+pub fn least(a: Option<FindingCode>, b: Option<FindingCode>) -> Option<FindingCode>
     ensures { result ≡ codes.least a b }
 {
     match (a, b) {
@@ -32,35 +32,35 @@ pub fn least(a: Option<ScrubCode>, b: Option<ScrubCode>) -> Option<ScrubCode>
     }
 }
 
-fn bare_code(found: Option<bool>, has_this: bool, missing: ScrubCode) -> Option<ScrubCode>
+fn bare_code(found: Option<bool>, has_this: bool, missing: FindingCode) -> Option<FindingCode>
     ensures { result ≡ spec.bare_code found has_this missing }
 {
     match found {
         None => Some(missing),
         Some(is_static) if is_static || has_this => None,
-        Some(_) => Some(ScrubCode::BadPlace),
+        Some(_) => Some(FindingCode::BadPlace),
     }
 }
 
-fn this_code(found: Option<bool>, has_this: bool, missing: ScrubCode) -> Option<ScrubCode>
+fn this_code(found: Option<bool>, has_this: bool, missing: FindingCode) -> Option<FindingCode>
     ensures { result ≡ spec.this_code found has_this missing }
 {
     if !has_this {
-        return Some(ScrubCode::BadPlace);
+        return Some(FindingCode::BadPlace);
     }
     match found {
         None => Some(missing),
-        Some(true) => Some(ScrubCode::BadPlace),
+        Some(true) => Some(FindingCode::BadPlace),
         Some(false) => None,
     }
 }
 
-fn own_code(found: Option<bool>, is_instance: bool, missing: ScrubCode) -> Option<ScrubCode>
+fn own_code(found: Option<bool>, is_instance: bool, missing: FindingCode) -> Option<FindingCode>
     ensures { result ≡ spec.own_code found is_instance missing }
 {
     match found {
         None => Some(missing),
-        Some(is_static) if is_static == is_instance => Some(ScrubCode::BadPlace),
+        Some(is_static) if is_static == is_instance => Some(FindingCode::BadPlace),
         Some(_) => None,
     }
 }
@@ -84,13 +84,13 @@ fn is_type(class: &Name, ty: &FaceTy) -> bool
     }
 }
 
-fn assigned_code(param: &ParamFace) -> Option<ScrubCode>
+fn assigned_code(param: &ParamFace) -> Option<FindingCode>
     ensures { result ≡ spec.assigned_code param.now }
 {
     if param.effectively_final {
         None
     } else {
-        Some(ScrubCode::AssignedParameter)
+        Some(FindingCode::AssignedParameter)
     }
 }
 
@@ -100,7 +100,7 @@ fn kind_in(kinds: &BTreeMap<Name, bool>, name: &Name) -> Option<bool>
     kinds.get(name).copied()
 }
 
-fn of_code(at: &Lookup<'_>, owner: &Name, name: &Name, missing: ScrubCode) -> Option<ScrubCode>
+fn of_code(at: &Lookup<'_>, owner: &Name, name: &Name, missing: FindingCode) -> Option<FindingCode>
     ensures { result ≡ spec.of_code (kinds_in at.now.kinds.now) at.now.class.now owner.now name.now missing (spec.param_named at.now.params.now owner.now) }
 {
     match param_named(at.params, owner) {
@@ -119,10 +119,11 @@ fn of_code(at: &Lookup<'_>, owner: &Name, name: &Name, missing: ScrubCode) -> Op
     }
 }
 
-fn lock_code(at: &Lookup<'_>, item: &LockItem) -> Option<ScrubCode>
+/// The code of one item of a list of locks.
+pub(crate) fn lock_code(at: &Lookup<'_>, item: &LockItem) -> Option<FindingCode>
     ensures { result ≡ spec.lock_code (kinds_in at.now.kinds.now) at.now.class.now at.now.has_this at.now.params.now item.now }
 {
-    let missing = ScrubCode::UnknownLock;
+    let missing = FindingCode::UnknownLock;
     match item {
         LockItem::Bare(name) => bare_code(kind_in(at.kinds, name), at.has_this, missing),
         LockItem::This(name) => this_code(kind_in(at.kinds, name), at.has_this, missing),
@@ -130,10 +131,10 @@ fn lock_code(at: &Lookup<'_>, item: &LockItem) -> Option<ScrubCode>
     }
 }
 
-fn effect_code(at: &Lookup<'_>, target: &EffectTarget) -> Option<ScrubCode>
+fn effect_code(at: &Lookup<'_>, target: &EffectTarget) -> Option<FindingCode>
     ensures { result ≡ spec.effect_code (kinds_in at.now.kinds.now) at.now.class.now at.now.has_this at.now.params.now target.now }
 {
-    let missing = ScrubCode::UnknownRegion;
+    let missing = FindingCode::UnknownRegion;
     match target {
         EffectTarget::Bare(name) => bare_code(kind_in(at.kinds, name), at.has_this, missing),
         EffectTarget::This(name) => this_code(kind_in(at.kinds, name), at.has_this, missing),
@@ -145,18 +146,7 @@ fn effect_code(at: &Lookup<'_>, target: &EffectTarget) -> Option<ScrubCode>
     }
 }
 
-/// The first code of the items of a list of locks: the least of all.
-pub fn locks_code(at: &Lookup<'_>, items: &[LockItem]) -> Option<ScrubCode>
-    ensures { result ≡ spec.locks_code (kinds_in at.now.kinds.now) at.now.class.now at.now.has_this at.now.params.now items.now }
-{
-    let mut code = None;
-    for item in items {
-        code = least(code, lock_code(at, item));
-    }
-    code
-}
-
-fn targets_code(at: &Lookup<'_>, targets: &[EffectTarget]) -> Option<ScrubCode>
+fn targets_code(at: &Lookup<'_>, targets: &[EffectTarget]) -> Option<FindingCode>
     ensures { result ≡ spec.targets_code (kinds_in at.now.kinds.now) at.now.class.now at.now.has_this at.now.params.now targets.now }
 {
     let mut code = None;
@@ -167,7 +157,7 @@ fn targets_code(at: &Lookup<'_>, targets: &[EffectTarget]) -> Option<ScrubCode>
 }
 
 /// The first code of what a member may read and write: the least of all targets.
-pub fn effects_code(at: &Lookup<'_>, effects: &EffectsContent) -> Option<ScrubCode>
+pub(crate) fn effects_code(at: &Lookup<'_>, effects: &EffectsContent) -> Option<FindingCode>
     ensures { result ≡ spec.effects_code (kinds_in at.now.kinds.now) at.now.class.now at.now.has_this at.now.params.now effects.now }
 {
     least(
@@ -179,16 +169,16 @@ pub fn effects_code(at: &Lookup<'_>, effects: &EffectsContent) -> Option<ScrubCo
 /// The code of an `InRegion` of a field that is static or not: `UnknownRegion` where the class has
 /// no such region, `MixedKinds` where it is of the other kind. `regions` has the class's regions,
 /// with whether each is static.
-pub fn in_region_code(
+pub(crate) fn in_region_code(
     regions: &BTreeMap<Name, bool>,
     region: &Name,
     is_static: bool,
-) -> Option<ScrubCode>
+) -> Option<FindingCode>
     ensures { result ≡ spec.in_region_code (kinds_in regions.now region.now) is_static }
 {
     match kind_in(regions, region) {
-        None => Some(ScrubCode::UnknownRegion),
+        None => Some(FindingCode::UnknownRegion),
         Some(kind) if kind == is_static => None,
-        Some(_) => Some(ScrubCode::MixedKinds),
+        Some(_) => Some(FindingCode::MixedKinds),
     }
 }

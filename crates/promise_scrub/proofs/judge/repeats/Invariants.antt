@@ -1,7 +1,7 @@
 use Rattle.std.proofs.Common.{◌≡◌, [], drop}
-use Rattle.promise_scrub.specs.Judging.{repeats}
+use Rattle.promise_scrub.specs.Steps.{repeats_tag}
 use Rattle.promise_scrub.proofs.judge.repeats.Given as goal
 
--- the claims that are left decide
-abbrev pub invariant-loop-claim : goal.invariant-loop-claim
-invariant-loop-claim l = repeats l.tags l.seen (drop l.claim-index l.claims) ≡ repeats l.tags [] l.claims
+-- the promises that are left decide
+abbrev pub invariant-loop-offer : goal.invariant-loop-offer
+invariant-loop-offer l = repeats_tag l.tags l.seen (drop l.offer-index l.offers) ≡ repeats_tag l.tags [] l.offers

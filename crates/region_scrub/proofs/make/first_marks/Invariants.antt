@@ -1,5 +1,5 @@
 use Rattle.std.proofs.Common.{◌≡◌, ◌∷◌, replicate}
-use Rattle.region_scrub.specs.declared.mark.Mark.TheVariants.{Fresh, Rooted}
+use Rattle.region_scrub.specs.declared.chain_state.ChainState.TheVariants.{Fresh, Rooted}
 use Rattle.region_scrub.proofs.make.first_marks.Given as goal
 
 abbrev pub invariant-loop-i : goal.invariant-loop-i

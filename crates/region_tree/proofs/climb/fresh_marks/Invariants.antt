@@ -1,5 +1,5 @@
 use Rattle.std.proofs.Common.{◌≡◌, replicate}
-use Rattle.region_tree.specs.declared.mark.Mark.TheVariants.{Fresh}
+use Rattle.region_tree.specs.declared.chain_state.ChainState.TheVariants.{Fresh}
 use Rattle.region_tree.proofs.climb.fresh_marks.Given as goal
 
 abbrev pub invariant-loop-i : goal.invariant-loop-i

@@ -1,8 +1,8 @@
 use Rattle.std.proofs.Common.{◌≡◌, ◌<◌, List, ℕ, length, arith, sym, ◌∙◌, inr}
 use Rattle.std.specs.Prelude.{Some, None}
 use Rattle.region_tree.specs.Chains.{parent_at}
-use Rattle.region_scrub.specs.declared.mark.Mark.{Mark}
-use Rattle.region_scrub.specs.declared.mark.Mark.TheVariants as mark
+use Rattle.region_scrub.specs.declared.chain_state.ChainState.{ChainState}
+use Rattle.region_scrub.specs.declared.chain_state.ChainState.TheVariants as mark
 use Rattle.region_scrub.specs.Rooting.{mark_at}
 use Rattle.region_scrub.proofs.Settling.{mark_is, option_is, fresh_read, begun_read, climb_steps_to, climb_falls_to, passed_to, pass_begun, pass_stays, start_begun, climb_reaches, climb_misses, climb_passed, parent_there}
 use Rattle.region_scrub.proofs.rooting.Rooting.climb.Goals as goal
@@ -10,7 +10,7 @@ use Rattle.region_scrub.proofs.rooting.Rooting.climb.Goals as goal
 pub loop-self-preserved : goal.loop-self-preserved
 loop-self-preserved c =
     let inv = c.loop-self.invariant in
-    let marks : List Mark = c.loop-self.self.marks.items in
+    let marks : List ChainState = c.loop-self.self.marks.items in
     let at : ℕ = c.loop-self.at in
     let fresh = fresh_read marks at _ _ inv.within c.index.ensures c.is_fresh.ensures c.loop-self-test.true in
     let near : at < length c.loop-self.self.parents.items = omega (arith, inv.climb.long, inv.within) in
@@ -28,7 +28,7 @@ loop-self-preserved c =
 pub returns-in-None-clause-climbed : goal.returns-in-None-clause-climbed
 returns-in-None-clause-climbed c =
     let inv = c.loop-self.invariant in
-    let marks : List Mark = c.loop-self.self.marks.items in
+    let marks : List ChainState = c.loop-self.self.marks.items in
     let at : ℕ = c.loop-self.at in
     let fresh = fresh_read marks at _ _ inv.within c.index.ensures c.is_fresh.ensures c.loop-self-test.true in
     let near : at < length c.loop-self.self.parents.items = omega (arith, inv.climb.long, inv.within) in
@@ -39,7 +39,7 @@ returns-in-None-clause-climbed c =
 pub returns-in-None-clause-passed : goal.returns-in-None-clause-passed
 returns-in-None-clause-passed c =
     let inv = c.loop-self.invariant in
-    let marks : List Mark = c.loop-self.self.marks.items in
+    let marks : List ChainState = c.loop-self.self.marks.items in
     let at : ℕ = c.loop-self.at in
     let fresh = fresh_read marks at _ _ inv.within c.index.ensures c.is_fresh.ensures c.loop-self-test.true in
     passed_to _ marks _ _ at c.in_ok-push.ensures.items inv.climb inv.within fresh
@@ -47,7 +47,7 @@ returns-in-None-clause-passed c =
 pub returns-in-Rooted-clause-climbed : goal.returns-in-Rooted-clause-climbed
 returns-in-Rooted-clause-climbed c =
     let inv = c.loop-self.invariant in
-    let marks : List Mark = c.loop-self.self.marks.items in
+    let marks : List ChainState = c.loop-self.self.marks.items in
     let at : ℕ = c.loop-self.at in
     let begun = begun_read marks at _ _ inv.within c.index.ensures c.is_fresh.ensures c.loop-self-test.false in
     climb_reaches _ marks _ at inv.climb begun (mark_is marks at _ inv.within c.index-2.ensures ∙ c.in-Rooted.is)
@@ -55,7 +55,7 @@ returns-in-Rooted-clause-climbed c =
 pub returns-in_default : goal.returns-in_default
 returns-in_default c =
     let inv = c.loop-self.invariant in
-    let marks : List Mark = c.loop-self.self.marks.items in
+    let marks : List ChainState = c.loop-self.self.marks.items in
     let at : ℕ = c.loop-self.at in
     let begun = begun_read marks at _ _ inv.within c.index.ensures c.is_fresh.ensures c.loop-self-test.false in
     let is : mark_at marks at ≡ c.index-2.result.now = mark_is marks at _ inv.within c.index-2.ensures in

@@ -1,5 +1,5 @@
 use Rattle.std.proofs.Common.{◌≡◌, ◌≢◌, ◌<◌, ◌⊎◌, length, sum_by}
-use Rattle.region_scrub.specs.declared.mark.Mark.TheVariants.{Fresh}
+use Rattle.region_scrub.specs.declared.chain_state.ChainState.TheVariants.{Fresh}
 use Rattle.region_scrub.specs.Rooting.{mark_at, fresh_weight, IsClimb, IsWithin, Stays}
 use Rattle.region_scrub.proofs.rooting.Rooting.climb.Given as goal
 

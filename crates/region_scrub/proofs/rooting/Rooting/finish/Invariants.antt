@@ -1,5 +1,5 @@
 use Rattle.std.proofs.Common.{◌≡◌, ◌≢◌, ℕ, vec_len}
-use Rattle.region_scrub.specs.declared.mark.Mark.TheVariants.{Fresh, Passing}
+use Rattle.region_scrub.specs.declared.chain_state.ChainState.TheVariants.{Fresh, Passing}
 use Rattle.region_scrub.specs.Rooting.{mark_at, IsClimbed, IsPassed}
 use Rattle.region_scrub.specs.Rooting as spec
 use Rattle.region_scrub.proofs.rooting.Rooting.finish.Given as goal

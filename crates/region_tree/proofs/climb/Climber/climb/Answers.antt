@@ -1,7 +1,7 @@
 use Rattle.std.proofs.Common.{◌≡◌, ◌≢◌, ◌<◌, List, ℕ, [], ◌∷◌, ◌++◌, length, arith, sym, ◌∙◌, inr}
 use Rattle.std.specs.Prelude.{Some, None}
-use Rattle.region_tree.specs.declared.mark.Mark.{Mark}
-use Rattle.region_tree.specs.declared.mark.Mark.TheVariants as mark
+use Rattle.region_tree.specs.declared.chain_state.ChainState.{ChainState}
+use Rattle.region_tree.specs.declared.chain_state.ChainState.TheVariants as mark
 use Rattle.region_tree.specs.Chains.{parent_at}
 use Rattle.region_tree.specs.Marks.{mark_at}
 use Rattle.region_tree.proofs.Climbs.{set_stays, pass_marked, pass_lost, pass_path, pass_begun, climb_falls, mark_read, parent_read, passing-not-fresh, down_of, pass_path_to, pass_climbs_to, end_falls_to, parent_within, mark_is, start_begun}
@@ -10,7 +10,7 @@ use Rattle.region_tree.proofs.climb.Climber.climb.Goals as goal
 pub loop-self-preserved : goal.loop-self-preserved
 loop-self-preserved c =
     let inv = c.loop-self.invariant in
-    let marks : List Mark = c.loop-self.self.marks.items in
+    let marks : List ChainState = c.loop-self.self.marks.items in
     let at : ℕ = c.loop-self.at in
     let fresh : mark_at marks at ≡ mark.Fresh = mark_read marks at _ mark.Fresh inv.within c.index.ensures c.in-Fresh.is in
     let near : at < length c.loop-self.self.parents.items = omega (arith, inv.marked.long, inv.within) in
@@ -31,14 +31,14 @@ loop-self-preserved c =
 pub returns-in-None-clause-marked : goal.returns-in-None-clause-marked
 returns-in-None-clause-marked c =
     let inv = c.loop-self.invariant in
-    let marks : List Mark = c.loop-self.self.marks.items in
+    let marks : List ChainState = c.loop-self.self.marks.items in
     let at : ℕ = c.loop-self.at in
     pass_marked _ marks _ at inv.marked inv.within (mark_read marks at _ mark.Fresh inv.within c.index.ensures c.in-Fresh.is)
 
 pub returns-in-None-clause-falls : goal.returns-in-None-clause-falls
 returns-in-None-clause-falls c =
     let inv = c.loop-self.invariant in
-    let marks : List Mark = c.loop-self.self.marks.items in
+    let marks : List ChainState = c.loop-self.self.marks.items in
     let at : ℕ = c.loop-self.at in
     let fresh : mark_at marks at ≡ mark.Fresh = mark_read marks at _ mark.Fresh inv.within c.index.ensures c.in-Fresh.is in
     let near : at < length c.loop-self.self.parents.items = omega (arith, inv.marked.long, inv.within) in
@@ -50,7 +50,7 @@ returns-in-None-clause-falls c =
 pub returns-in_default-matches : goal.returns-in_default-matches
 returns-in_default-matches c =
     let inv = c.loop-self.invariant in
-    let marks : List Mark = c.loop-self.self.marks.items in
+    let marks : List ChainState = c.loop-self.self.marks.items in
     let at : ℕ = c.loop-self.at in
     let is : mark_at marks at ≡ c.index.result.now = mark_is marks at _ inv.within c.index.ensures in
     let is_again : mark_at marks at ≡ c.index-2.result.now = mark_is marks at _ inv.within c.index-2.ensures in

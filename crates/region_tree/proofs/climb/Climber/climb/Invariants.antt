@@ -1,5 +1,5 @@
 use Rattle.std.proofs.Common.{◌≡◌, ◌≢◌, ◌<◌, ◌⊎◌, length, sum_by}
-use Rattle.region_tree.specs.declared.mark.Mark.TheVariants.{Fresh}
+use Rattle.region_tree.specs.declared.chain_state.ChainState.TheVariants.{Fresh}
 use Rattle.region_tree.specs.Marks.{mark_at, fresh_weight, Marked, LostClosed, OnPath, ClimbsTo, StaysBegun}
 use Rattle.region_tree.proofs.climb.Climber.climb.Given as goal
 

@@ -1,5 +1,5 @@
 use Rattle.std.proofs.Common.{◌≡◌, ◌<◌, length, arith, rules, sym, ◌∙◌}
-use Rattle.region_tree.specs.declared.mark.Mark.TheVariants as mark
+use Rattle.region_tree.specs.declared.chain_state.ChainState.TheVariants as mark
 use Rattle.region_tree.specs.Marks.{mark_at}
 use Rattle.region_tree.proofs.Climbs.{mark_is}
 use Rattle.region_tree.proofs.Rooted.{ranked_rooted, lost_unrooted, unranked_lost}

@@ -1,13 +1,13 @@
 use Rattle.std.proofs.Common.{◌≡◌, List, ℕ, [], ◌∷◌, ◌++◌, subst}
-use Rattle.region_tree.specs.declared.mark.Mark.{Mark}
-use Rattle.region_tree.specs.declared.mark.Mark.TheVariants as mark
+use Rattle.region_tree.specs.declared.chain_state.ChainState.{ChainState}
+use Rattle.region_tree.specs.declared.chain_state.ChainState.TheVariants as mark
 use Rattle.region_tree.specs.Marks.{OnPath, LostFalls}
 use Rattle.region_tree.proofs.Climbs.{set_stays, top_within, top_passing, pop_path, lose_marked, lose_falls, lost-not-passing, lost-not-fresh}
 use Rattle.region_tree.proofs.climb.Climber.lose_path.Goals as goal
 
 pub loop-region-preserved : goal.loop-region-preserved
 loop-region-preserved c =
-    let marks : List Mark = c.loop-region.self.marks.items in
+    let marks : List ChainState = c.loop-region.self.marks.items in
     let rest : List ℕ = c.pop.new.self.items in
     let region : ℕ = c.in-Some.region in
     let inv = c.loop-region.invariant in

@@ -1,5 +1,5 @@
 use Rattle.std.proofs.Common.{◌≡◌, ◌≢◌, ◌<◌, ℕ, [], length}
-use Rattle.region_tree.specs.declared.mark.Mark.TheVariants.{Fresh}
+use Rattle.region_tree.specs.declared.chain_state.ChainState.TheVariants.{Fresh}
 use Rattle.region_tree.specs.Marks.{mark_at, Marked, LostClosed, IsSettled}
 use Rattle.region_tree.proofs.climb.Climber.settle_all.Given as goal
 

@@ -7,8 +7,8 @@ use Rattle.region_tree.proofs.disjoint.DisjointRegions.is_under_held.Given as go
 abbrev pub invariant-loop-parent : goal.invariant-loop-parent
 invariant-loop-parent l = record {
   within : l.at < length l.tree.parents.items;
-  there : UnderHeld l.tree.parents.items l.self.standings.items l.at → UnderHeld l.tree.parents.items l.self.standings.items l.start;
-  back : UnderHeld l.tree.parents.items l.self.standings.items l.start → UnderHeld l.tree.parents.items l.self.standings.items l.at;
+  there : UnderHeld l.tree.parents.items l.self.states.items l.at → UnderHeld l.tree.parents.items l.self.states.items l.start;
+  back : UnderHeld l.tree.parents.items l.self.states.items l.start → UnderHeld l.tree.parents.items l.self.states.items l.at;
 }
 
 abbrev pub decreases-loop-parent : goal.decreases-loop-parent

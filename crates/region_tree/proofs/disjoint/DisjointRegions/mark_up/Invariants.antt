@@ -6,7 +6,7 @@ use Rattle.region_tree.proofs.disjoint.DisjointRegions.mark_up.Given as goal
 abbrev pub invariant-loop-self : goal.invariant-loop-self
 invariant-loop-self l = record {
   within : l.at < length l.tree.parents.items;
-  climbing : Climbing l.tree.parents.items (λ z. rank_of (mark_at l.tree.marks.items z)) l.initial.self.standings.items l.self.standings.items l.start l.at l.given;
+  climbing : Climbing l.tree.parents.items (λ z. rank_of (mark_at l.tree.marks.items z)) l.initial.self.states.items l.self.states.items l.start l.at l.given;
 }
 
 abbrev pub decreases-loop-self : goal.decreases-loop-self

@@ -1,6 +1,6 @@
 use Rattle.std.proofs.Common.{◌≡◌, ◌<◌, ◌≤◌, ℕ, arith, rules}
 use Rattle.std.specs.Prelude.{Option, Some, None, List}
-use Rattle.region_tree.specs.declared.mark.Mark.{Mark}
+use Rattle.region_tree.specs.declared.chain_state.ChainState.{ChainState}
 use Rattle.region_tree.specs.Chains.{parent_at}
 use Rattle.region_tree.specs.Marks.{mark_at, rank_of}
 use Rattle.region_tree.proofs.Climbs.{parent_read}
@@ -14,7 +14,7 @@ pub loop-at-preserved : goal.loop-at-preserved
 loop-at-preserved c =
     let tree = c.args.self.now in
     let parents : List (Option ℕ) = tree.parents.items in
-    let marks : List Mark = tree.marks.items in
+    let marks : List ChainState = tree.marks.items in
     let inv = c.loop-at.invariant in
     let rank : ℕ → ℕ = λ z. rank_of (mark_at marks z) in
     let higher : rank c.args.b.number < rank c.loop-at.at = omega (arith, c.rank.ensures, c.rank-height.ensures, c.loop-at-test.true) in
@@ -29,7 +29,7 @@ pub returns-in-None : goal.returns-in-None
 returns-in-None c =
     let tree = c.args.self.now in
     let parents : List (Option ℕ) = tree.parents.items in
-    let marks : List Mark = tree.marks.items in
+    let marks : List ChainState = tree.marks.items in
     let inv = c.loop-at.invariant in
     let rank : ℕ → ℕ = λ z. rank_of (mark_at marks z) in
     let higher : rank c.args.b.number < rank c.loop-at.at = omega (arith, c.rank.ensures, c.rank-height.ensures, c.loop-at-test.true) in
@@ -40,7 +40,7 @@ pub returns : goal.returns
 returns c =
     let tree = c.args.self.now in
     let parents : List (Option ℕ) = tree.parents.items in
-    let marks : List Mark = tree.marks.items in
+    let marks : List ChainState = tree.marks.items in
     let inv = c.loop-at.invariant in
     let low : rank_of (mark_at marks c.loop-at.at) ≤ rank_of (mark_at marks c.args.b.number) =
     omega (arith, c.rank.ensures, c.rank-height.ensures, c.loop-at-test.false) in (

@@ -1,7 +1,0 @@
-use Rattle.std.proofs.Common.{take}
-use Rattle.promise_scrub.specs.Locks.{HasFields}
-use Rattle.promise_scrub.proofs.fields.lock_fields.Given as goal
-
--- the fields so far
-abbrev pub invariant-loop-field : goal.invariant-loop-field
-invariant-loop-field l = HasFields l.known (take l.field-index l.fields)

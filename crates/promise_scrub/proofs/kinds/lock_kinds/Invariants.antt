@@ -1,7 +1,0 @@
-use Rattle.std.proofs.Common.{take}
-use Rattle.promise_scrub.specs.Surfaces.{HasKinds, lock_kind}
-use Rattle.promise_scrub.proofs.kinds.lock_kinds.Given as goal
-
--- those of the locks so far
-abbrev pub invariant-loop-lock : goal.invariant-loop-lock
-invariant-loop-lock l = HasKinds l.kinds (lock_kind (take l.lock-index l.locks))

@@ -1,8 +1,0 @@
-use Rattle.std.proofs.Common.{take}
-use Rattle.promise_scrub.specs.Locks.{region_kind}
-use Rattle.promise_scrub.specs.Surfaces.{HasKinds}
-use Rattle.promise_scrub.proofs.kinds.region_kinds.Given as goal
-
--- those of the regions so far
-abbrev pub invariant-loop-decl : goal.invariant-loop-decl
-invariant-loop-decl l = HasKinds l.kinds (region_kind (take l.decl-index l.declared))

@@ -1,7 +1,0 @@
-use Rattle.std.proofs.Common.{◌≡◌, take}
-use Rattle.promise_scrub.specs.Regions.{decls_of}
-use Rattle.promise_scrub.proofs.regions.decls_of.Given as goal
-
--- the regions so far
-abbrev pub invariant-loop-mark : goal.invariant-loop-mark
-invariant-loop-mark l = l.declared ≡ decls_of l.site (take l.mark-index l.marks)

@@ -1,7 +1,0 @@
-use Rattle.std.proofs.Common.{◌≡◌, take}
-use Rattle.promise_scrub.specs.Regions.{first_codes}
-use Rattle.promise_scrub.proofs.regions.first_codes.Given as goal
-
--- the codes so far
-abbrev pub invariant-loop-mark : goal.invariant-loop-mark
-invariant-loop-mark l = l.codes ≡ first_codes l.site (take l.mark-index l.marks)

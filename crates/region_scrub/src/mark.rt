@@ -1,9 +1,0 @@
-/// What is known of a region's chain of parents: nothing; that it is climbed now; that it reaches no
-/// root; or that it reaches one.
-#[derive(Clone, Copy, Debug)]
-pub(crate) enum Mark {
-    Fresh,
-    Passing,
-    Lost,
-    Rooted,
-}
