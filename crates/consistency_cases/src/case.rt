@@ -1,5 +1,8 @@
+ghost use Rattle.std.specs.Prelude.{◌≡◌, ◌++◌, IfOk, codes, decimal};
+ghost use Rattle.consistency.specs.Keys.{Distinct};
+
 use desk_base::{Items, Name, OutOfMemory, PromiseKey, PromiseName, Text};
-use result_records::{Alternative, Finding, FindingCode, FindingKey, FindingLink, VouchKey};
+use result_records::{Alternative, Finding, FindingCode, FindingKey, FindingLink, Put, VouchKey};
 use std::alloc::Global;
 
 /// A link by number: to a promise, or to a word (even: a vouch, odd: an assumption).
@@ -16,11 +19,18 @@ pub struct Case {
     pub ways: Vec<Vec<Link>>,
 }
 
-pub fn text_of(alloc: Global, letter: &str, number: usize) -> Result<Text, OutOfMemory> {
-    Ok(Text::from_string(format!(in alloc; "{letter}{number}")?))
+fn text_of(alloc: Global, letter: &str, number: usize) -> Result<Text, OutOfMemory>
+    ensures { IfOk result (λ text. text ≡ letter.now ++ decimal number) }
+{
+    let mut text = Text::new(alloc);
+    text.put(letter)?;
+    text.put_number(number as u64)?;
+    Ok(text)
 }
 
-pub fn key_of(alloc: Global, promise: usize) -> Result<PromiseKey, OutOfMemory> {
+fn key_of(alloc: Global, promise: usize) -> Result<PromiseKey, OutOfMemory>
+    ensures { IfOk result (λ key. key.target ≡ codes "P" ++ decimal promise) }
+{
     let target = text_of(alloc, "P", promise)?;
     Ok(PromiseKey {
         target,
@@ -80,7 +90,10 @@ fn finding_of(alloc: Global, number: u32, case: &Case) -> Result<Finding, OutOfM
     })
 }
 
-pub fn keys_of(alloc: Global, promises: usize) -> Result<Vec<PromiseKey>, OutOfMemory> {
+/// The keys of so many promises, no two of them one.
+pub fn keys_of(alloc: Global, promises: usize) -> Result<Vec<PromiseKey>, OutOfMemory>
+    ensures { IfOk result (λ keys. Distinct keys.items) }
+{
     let mut keys = Vec::new(alloc);
     for promise in 0..promises {
         keys.push(key_of(alloc, promise)?)?;

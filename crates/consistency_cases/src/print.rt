@@ -9,12 +9,14 @@ use std::alloc::Global;
 
 fn verdicts_of(
     alloc: Global,
-    keys: &[PromiseKey],
+    promises: usize,
     cases: &[Case],
-) -> Result<Verdicts, OutOfMemory> {
+) -> Result<(Vec<PromiseKey>, Verdicts), OutOfMemory> {
+    let keys = keys_of(alloc, promises)?;
     let findings = findings_of(alloc, cases)?;
-    let graph = graph_of(alloc, keys, &findings)?;
-    solve(alloc, &graph)
+    let graph = graph_of(alloc, &keys, &findings)?;
+    let verdicts = solve(alloc, &graph)?;
+    Ok((keys, verdicts))
 }
 
 fn blame_text(blame: Option<&FindingKey>) -> u32 {
@@ -59,8 +61,7 @@ pub fn print_verdicts(
     promises: usize,
     cases: &[Case],
 ) -> Result<(), Error> {
-    let keys = keys_of(alloc, promises)?;
-    let verdicts = verdicts_of(alloc, &keys, cases)?;
+    let (keys, verdicts) = verdicts_of(alloc, promises, cases)?;
     let mut promise = 0usize;
     for key in &keys {
         print_one(rt, &verdicts, promise, key)?;
@@ -107,8 +108,7 @@ fn agrees(
 fn compare_one(alloc: Global, random: &mut Random) -> Result<bool, OutOfMemory> {
     let promises = random.below(12) + 1;
     let cases = random.cases(alloc, promises)?;
-    let keys = keys_of(alloc, promises)?;
-    let verdicts = verdicts_of(alloc, &keys, &cases)?;
+    let (keys, verdicts) = verdicts_of(alloc, promises, &cases)?;
     let con = rounds_of(alloc, promises, &cases, true)?;
     let firm = rounds_of(alloc, promises, &cases, false)?;
     let mut promise = 0usize;
@@ -138,8 +138,7 @@ pub fn compare(rt: &impl Print, alloc: Global, seed: usize, graphs: usize) -> Re
 
 /// Prints how many promises are inconsistent.
 pub fn count(rt: &impl Print, alloc: Global, promises: usize, cases: &[Case]) -> Result<(), Error> {
-    let keys = keys_of(alloc, promises)?;
-    let verdicts = verdicts_of(alloc, &keys, cases)?;
+    let (keys, verdicts) = verdicts_of(alloc, promises, cases)?;
     let out = keys
         .iter()
         .filter(|key| verdicts.verdict(key) == Some(Verdict::Inconsistent))
