@@ -34,7 +34,11 @@ fn put_output(alloc: Global, out: &mut String, input: &[u8]) -> Result<()> {
     if let Some(file) = input.strip_prefix(b"furthest\n") {
         return put_furthest(alloc, out, file);
     }
-    put_table(alloc, out, str::from_utf8(input).context("reading the table")?)
+    put_table(
+        alloc,
+        out,
+        str::from_utf8(input).context("reading the table")?,
+    )
 }
 
 fn main(rt: HostRuntime) -> Result<()> {
