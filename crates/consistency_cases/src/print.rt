@@ -106,7 +106,7 @@ fn agrees(
 }
 
 fn compare_one(alloc: Global, random: &mut Random) -> Result<bool, OutOfMemory> {
-    let promises = random.below(12) + 1;
+    let promises = random.below(12).saturating_add(1);
     let cases = random.cases(alloc, promises)?;
     let (keys, verdicts) = verdicts_of(alloc, promises, &cases)?;
     let con = rounds_of(alloc, promises, &cases, true)?;
