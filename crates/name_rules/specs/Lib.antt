@@ -1,0 +1,4 @@
+pub mod Types
+pub mod Notes
+pub mod Scopes
+pub mod Places
