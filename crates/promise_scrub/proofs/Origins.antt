@@ -33,12 +33,12 @@ one_flat f y (x ∷ xs) h = elim (one_split y (f x) (flat_map f xs) h) [
 
 kept_before : (p : Offer → Bool) (o : Offer) (os : List Offer) → IsOneOf o (filter p os) → IsOneOf o os
 kept_before p o [] h = absurd h
-kept_before p o (x ∷ xs) h = go (p x) h
+kept_before p o (x ∷ xs) h = go (p x) (λ k. kept_before p o xs k) h
   where
-    go : (b : Bool) → IsOneOf o (if b then x ∷ filter p xs else filter p xs) → IsOneOf o (x ∷ xs)
-    go true (inl e) = inl e
-    go true (inr k) = inr (kept_before p o xs k)
-    go false k = inr (kept_before p o xs k)
+    go : (b : Bool) → (IsOneOf o (filter p xs) → IsOneOf o xs) → IsOneOf o (if b then x ∷ filter p xs else filter p xs) → IsOneOf o (x ∷ xs)
+    go true later (inl e) = inl e
+    go true later (inr k) = inr (later k)
+    go false later k = inr (later k)
 
 -- ---- codes
 

@@ -53,18 +53,18 @@ at_place (b ∷ before) after k = at_place before after k
 kind_at : (test : List ℕ → Bool) (before : List Bool) (ds : List RegionDecl) (i : ℕ) → i ≡ length before
     → option_and_then (slice_get (before ++ map decl_kind ds)) (position_from test i (map decl_name ds)) ≡ first_kind test ds
 kind_at test before [] i is = refl
-kind_at test before (d ∷ ds) i is = go (test d.name)
+kind_at test before (d ∷ ds) i is =
+    let next : i + 1 ≡ length (before ++ d.is_static ∷ []) = omega (arith, length-append before (d.is_static ∷ [])) in
+    go (test d.name)
+    (ap (λ (z : List Bool). option_and_then (slice_get z) (position_from test (i + 1) (map decl_name ds))) (sym (append_assoc before (d.is_static ∷ []) (map decl_kind ds)))
+    ∙ kind_at test (before ++ d.is_static ∷ []) ds (i + 1) next)
   where
-    next : i + 1 ≡ length (before ++ d.is_static ∷ [])
-    next = omega (arith, length-append before (d.is_static ∷ []))
-    rest : option_and_then (slice_get (before ++ d.is_static ∷ map decl_kind ds)) (position_from test (i + 1) (map decl_name ds)) ≡ first_kind test ds
-    rest =
-        ap (λ (z : List Bool). option_and_then (slice_get z) (position_from test (i + 1) (map decl_name ds))) (sym (append_assoc before (d.is_static ∷ []) (map decl_kind ds)))
-        ∙ kind_at test (before ++ d.is_static ∷ []) ds (i + 1) next
-    go : (b : Bool) → option_and_then (slice_get (before ++ d.is_static ∷ map decl_kind ds)) (cond b (Some i) (position_from test (i + 1) (map decl_name ds)))
+    go : (b : Bool)
+        → option_and_then (slice_get (before ++ d.is_static ∷ map decl_kind ds)) (position_from test (i + 1) (map decl_name ds)) ≡ first_kind test ds
+        → option_and_then (slice_get (before ++ d.is_static ∷ map decl_kind ds)) (cond b (Some i) (position_from test (i + 1) (map decl_name ds)))
         ≡ (if b then Some d.is_static else first_kind test ds)
-    go true = ap (slice_get (before ++ d.is_static ∷ map decl_kind ds)) is ∙ at_place before (map decl_kind ds) d.is_static
-    go false = rest
+    go true rest = ap (slice_get (before ++ d.is_static ∷ map decl_kind ds)) is ∙ at_place before (map decl_kind ds) d.is_static
+    go false rest = rest
 
 declared_first : (name : List ℕ) (ds : List RegionDecl) → declared_kind ds name ≡ first_kind (λ n. bytes_eq n name) ds
 declared_first name [] = refl
@@ -173,11 +173,12 @@ module _ (class : List ℕ) (regions locks : Kinds) (scoped : List Scoped) where
 
 named_field : (ms : List MemberTree) (name : List ℕ) (f : FieldFace) → AllByRecursion IsNamed ms → field_named (fields_of ms) name ≡ Some f → IsPlain name
 named_field [] name f all e = absurd (cc)
-named_field (member.Field g ∷ ms) name f all e = go (bytes_eq g.name.text name) refl e
+named_field (member.Field g ∷ ms) name f all e = go (bytes_eq g.name.text name) refl (λ k. named_field ms name f all.1 k) e
   where
-    go : (b : Bool) → bytes_eq g.name.text name ≡ b → cond b (Some (field_face g)) (field_named (fields_of ms) name) ≡ Some f → IsPlain name
-    go true is e = subst IsPlain ((bytes_eq-Decides g.name.text name).0 is) all.0
-    go false is e = named_field ms name f all.1 e
+    go : (b : Bool) → bytes_eq g.name.text name ≡ b → (field_named (fields_of ms) name ≡ Some f → IsPlain name)
+        → cond b (Some (field_face g)) (field_named (fields_of ms) name) ≡ Some f → IsPlain name
+    go true is later e = subst IsPlain ((bytes_eq-Decides g.name.text name).0 is) all.0
+    go false is later e = later e
 named_field (member.Method m ∷ ms) name f all e = named_field ms name f all.1 e
 named_field (member.Sig m ∷ ms) name f all e = named_field ms name f all.1 e
 named_field (member.Ctor m ∷ ms) name f all e = named_field ms name f all.1 e
