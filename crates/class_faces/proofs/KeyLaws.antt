@@ -261,8 +261,7 @@ header_lacks : (class : List ℕ) (slots : List (List ℕ)) (ms : List MemberTre
 header_lacks class slots [] p all few = tt
 header_lacks class slots (m ∷ ms) p all few =
     let within : times slots (slot_of m) ≤ length slots = count_by-le-length (λ s. bytes_eq s (slot_of m)) slots in
-    let long : length (slots ++ slot_of m ∷ []) ≡ length slots + 1 = length-append slots (slot_of m ∷ []) in
-    (
+    let long : length (slots ++ slot_of m ∷ []) ≡ length slots + 1 = length-append slots (slot_of m ∷ []) in (
       header_other class (key_name m) (key_count m) (times slots (slot_of m) + 1) p (named_plain m all.0) (named_few m all.0) (omega arith),
       header_lacks class (slots ++ slot_of m ∷ []) ms p all.1 (omega arith),
     )

@@ -109,8 +109,7 @@ class_distinct : (class : ClassTree) (header : List Mark) (members : List (List 
     → HasNames class → Distinct (keys_of (units_of class header members regions locks codes))
 class_distinct class header members regions locks codes names =
     let d = units_distinct class names in
-    let scoped = scoped_of (header_site class.kind) header in
-    (
+    let scoped = scoped_of (header_site class.kind) header in (
       members_lack class.name.text regions locks scoped (text_of class.name.text) (member_keys class) members class.members d.0,
       members_distinct class.name.text regions locks scoped (member_keys class) members class.members d.1,
     )

@@ -73,7 +73,7 @@ spread_of at m s a h = go (selects s.scope m) h
 
 pub of_member : (at : Facts) (m : MemberTree) (marks : List Mark) (scoped : List Scoped) (a : Annotation) → IsOneOf a (member_annotations at m marks scoped) → OfMember at m a
 of_member at m marks scoped a h = elim (one_split a (map (written at m) marks) (flat_map (spread_to at m) scoped) h) [
-  inl w ↦ (let r = one_map (written at m) a marks w in record {
+  | inl w ↦ (let r = one_map (written at m) a marks w in record {
     place = (r.0).param;
     param = param_name m (r.0).param;
     tree = (r.0).tree;

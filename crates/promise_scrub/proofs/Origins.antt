@@ -27,7 +27,7 @@ one_split x (y ∷ xs) ys (inr h) = elim (one_split x xs ys h) [ inl a ↦ inl (
 pub one_flat : {A B : Type 0} (f : A → List B) (y : B) (xs : List A) → IsOneOf y (flat_map f xs) → (x : A) × IsOneOf x xs × IsOneOf y (f x)
 one_flat f y [] h = absurd h
 one_flat f y (x ∷ xs) h = elim (one_split y (f x) (flat_map f xs) h) [
-  inl a ↦ (x, inl refl, a)
+  | inl a ↦ (x, inl refl, a)
   | inr b ↦ (let r = one_flat f y xs b in (r.0, inr r.1, r.2))
 ]
 
@@ -83,8 +83,7 @@ stands_clean spread mine before (Bad code) tree ks e = absurd (cc)
 stands_clean spread mine before (Gives t offers) tree ks e =
     let r = by_offers_stands spread t tree before (kept spread mine offers) ks e in
     let there : (o : Offer) → IsOneOf o ks → IsOneOf o offers × (o.code ≡ None) = λ o h.
-    let k : IsOneOf o (kept spread mine offers) = subst (λ (z : List Offer). IsOneOf o z) (sym r.1) h in
-    (
+    let k : IsOneOf o (kept spread mine offers) = subst (λ (z : List Offer). IsOneOf o z) (sym r.1) h in (
       kept_before (λ o. not (spread && list_any (λ a. same_key a o) mine)) o offers k,
       none_coded (if repeated before (kept spread mine offers) then Some scrub.RepeatedPromise else None) (kept spread mine offers) o r.2 k,
     ) in
@@ -96,7 +95,7 @@ offered_by : (key : List ℕ) (tree : PromiseTree) (before offers : List Offer) 
     → (o : Offer) × IsOneOf o offers × (s ≡ standing_of key tree o)
 offered_by key tree before [] s h = absurd h
 offered_by key tree before (o ∷ os) s h = elim (one_split s (stands_more key tree before o) (stands_after key tree (before ++ o ∷ []) os) h) [
-  inl a ↦ go (list_any (λ a. same_key a o) before) a
+  | inl a ↦ go (list_any (λ a. same_key a o) before) a
   | inr b ↦ (let r = offered_by key tree (before ++ o ∷ []) os s b in (r.0, inr r.1, r.2))
 ]
   where
@@ -118,7 +117,7 @@ given_after : (key : List ℕ) (before : List Offer) (js : List Judged) (s : Sta
     → (j : Judged) × IsOneOf j js × GivenBy key s j.verdict
 given_after key before [] s h = absurd h
 given_after key before (j ∷ js) s h = elim (one_split s (stands_by key before j.verdict) (standings_after key (before ++ offers_in j.verdict) js) h) [
-  inl a ↦ (j, inl refl, given_by key before j.verdict s a)
+  | inl a ↦ (j, inl refl, given_by key before j.verdict s a)
   | inr b ↦ (let r = given_after key (before ++ offers_in j.verdict) js s b in (r.0, inr r.1, r.2))
 ]
 

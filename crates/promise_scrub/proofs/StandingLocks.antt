@@ -87,7 +87,7 @@ is_written class face s p content h =
             holds = ap (lock_by None) w.some ∙ ap lock_in h.holds;
           };
           key = key_is class.name.text content u p g (ap (λ (z : UnitAnnotations). z.key) e)
-          (w.offered ∙ ap (offers_of at (header_site class.kind) []) h.holds);
+              (w.offered ∙ ap (offers_of at (header_site class.kind) []) h.holds);
         }
     go u (inr later) g =
         let m = is_member class.name.text (region_kind s.regions) (class_locks class s.header s.codes) (scoped_of (header_site class.kind) s.header) (member_keys class) s.members class.members u later in
@@ -127,9 +127,9 @@ locks_apart class face p q one other s h g differ overlaps =
     let v = is_written class face s q other g in
     let here : Overlap s.regions one.region other.region = subst (λ (f : Face). Overlap f.regions one.region other.region) s.is overlaps in
     elim (order w.number v.number) [
-      inl low ↦ regions_apart (header_site class.kind) (field_faces class) s.header s.regions s.codes w.number v.number one other s.scrubbed low w.stands v.stands (flipped s.regions one.region other.region here)
+      | inl low ↦ regions_apart (header_site class.kind) (field_faces class) s.header s.regions s.codes w.number v.number one other s.scrubbed low w.stands v.stands (flipped s.regions one.region other.region here)
       | inr o ↦ elim o [
-        inl same ↦ differ (w.key ∙ ap (lock_key class.name.text) (one_content s.header s.codes w.number v.number one other same w.stands v.stands) ∙ sym v.key)
+        | inl same ↦ differ (w.key ∙ ap (lock_key class.name.text) (one_content s.header s.codes w.number v.number one other same w.stands v.stands) ∙ sym v.key)
         | inr low ↦ regions_apart (header_site class.kind) (field_faces class) s.header s.regions s.codes v.number w.number other one s.scrubbed low v.stands w.stands here
       ]
     ]

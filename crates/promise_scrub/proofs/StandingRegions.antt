@@ -78,8 +78,10 @@ same_kind declared name = go (bytes_eq (codes "Instance") name) (bytes_eq (codes
   where
     turned : (a b : List ℕ) → bytes_eq a b ≡ bytes_eq b a
     turned a b = both_ways (bytes_eq a b) (bytes_eq b a) (λ e. (bytes_eq-Decides b a).1 (sym ((bytes_eq-Decides a b).0 e))) (λ e. (bytes_eq-Decides a b).1 (sym ((bytes_eq-Decides b a).0 e)))
+
     found : option_and_then (slice_get (region_kinds declared)) (position_from (λ n. bytes_eq n name) 2 (map decl_name declared)) ≡ declared_kind declared name
     found = kind_at (λ n. bytes_eq n name) (false ∷ true ∷ []) declared 2 refl ∙ sym (declared_first name declared)
+
     go : (a b c d : Bool) → a ≡ c → b ≡ d
         → option_and_then (slice_get (region_kinds declared)) (cond a (Some 0) (cond b (Some 1) (position_from (λ n. bytes_eq n name) 2 (map decl_name declared))))
         ≡ (if c then Some false else (if d then Some true else declared_kind declared name))
@@ -147,8 +149,7 @@ module _ (class : List ℕ) (regions locks : Kinds) (scoped : List Scoped) where
   skipped : (slots : List (List ℕ)) (m : MemberTree) (ms : List MemberTree) (field : List ℕ) → times (slots ++ slot_of m ∷ []) field ≡ 0
       → (field_named (fields_of (m ∷ ms)) field ≡ field_named (fields_of ms) field) × (times slots field ≡ 0)
   skipped slots m ms field none =
-      let more : times (slots ++ slot_of m ∷ []) field ≡ times slots field + cond (bytes_eq (slot_of m) field) 1 0 = times_more slots (slot_of m) field in
-      (
+      let more : times (slots ++ slot_of m ∷ []) field ≡ times slots field + cond (bytes_eq (slot_of m) field) 1 0 = times_more slots (slot_of m) field in (
         not_first m ms field (apart (bytes_eq (slot_of m) field) (times slots field) (sym more ∙ none)),
         omega arith,
       )
