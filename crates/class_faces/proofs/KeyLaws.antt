@@ -14,7 +14,7 @@ use Rattle.std.proofs.lemmas.Str.Parse.{digit_from_value}
 use Rattle.java_tree.specs.declared.file.ClassTree.{ClassTree}
 use Rattle.java_tree.specs.declared.member.MemberTree.{MemberTree}
 use Rattle.java_tree.specs.declared.member.MemberTree.TheVariants as member
-use Rattle.class_faces.specs.Keys.{Distinct, HasNames, IsAmong, IsCallable, IsNameByte, IsNamed, IsPlain, Lacks, counted, key_count, key_name, key_with, keys_after, member_keys, repeat_mark, slot_of, text_of, times, unit_keys, written_name}
+use Rattle.class_faces.specs.Keys.{Distinct, HasNames, IsAmong, IsCallable, IsNameByte, IsNamed, IsPlain, Lacks, counted, key_count, key_name, key_with, keys_after, member_key, member_keys, repeat_mark, slot_of, text_of, times, unit_keys, written_name}
 use Rattle.class_faces.proofs.Counting.{times_more}
 
 -- ---- texts that a sign ends
@@ -75,7 +75,7 @@ more_ascii b bs low ascii (suc i) = ascii i
 
 -- ---- names with numbers of parameters
 
-abbrev IsFew : Option ℕ → Type 0
+abbrev pub IsFew : Option ℕ → Type 0
 IsFew None = Unit {0}
 IsFew (Some count) = count < 2 ^ 64
 
@@ -135,7 +135,7 @@ mark_same j k p q few few' e = go (nat_lt j 2) (nat_lt k 2) refl refl e
 lower : (b : ℕ) → 96 < b → b < 123 → IsNameByte b
 lower b p q = record { ascii = omega arith; no_dot = λ e. omega arith; no_slash = λ e. omega arith; no_tilde = λ e. omega arith }
 
-named_plain : (m : MemberTree) → IsNamed m → IsPlain (key_name m)
+pub named_plain : (m : MemberTree) → IsNamed m → IsPlain (key_name m)
 named_plain (member.Field f) h = h
 named_plain (member.Method m) h = h.plain
 named_plain (member.Sig s) h = h.plain
@@ -143,7 +143,7 @@ named_plain (member.Ctor c) h = (lower 110 (omega arith) (omega arith), (lower 1
 named_plain (member.Main m) h =
     (lower 109 (omega arith) (omega arith), (lower 97 (omega arith) (omega arith), (lower 105 (omega arith) (omega arith), (lower 110 (omega arith) (omega arith), tt))))
 
-named_few : (m : MemberTree) → IsNamed m → IsFew (key_count m)
+pub named_few : (m : MemberTree) → IsNamed m → IsFew (key_count m)
 named_few (member.Field f) h = tt
 named_few (member.Method m) h = h.few
 named_few (member.Sig s) h = h.few
@@ -170,34 +170,39 @@ slot_is (member.Ctor c) h = refl
 slot_is (member.Main m) h = refl
 
 -- the key without the class, and with it
-abbrev tail_of : MemberTree → ℕ → List ℕ
-tail_of m k = written_name (key_name m) (key_count m) ++ repeat_mark k
+abbrev tail_by : List ℕ → Option ℕ → ℕ → List ℕ
+tail_by name count k = written_name name count ++ repeat_mark k
 
-abbrev raw_key : List ℕ → MemberTree → ℕ → List ℕ
-raw_key class m k = (class ++ 46 ∷ []) ++ tail_of m k
+abbrev raw_key : List ℕ → List ℕ → Option ℕ → ℕ → List ℕ
+raw_key class name count k = (class ++ 46 ∷ []) ++ tail_by name count k
 
-raw_ascii : (class : List ℕ) (m : MemberTree) (k : ℕ) → IsPlain class → IsNamed m → k < 2 ^ 64 → IsAscii (raw_key class m k)
-raw_ascii class m k p h few =
-    IsAscii-append (class ++ 46 ∷ []) (tail_of m k) (IsAscii-append class (46 ∷ []) (plain_ascii class p) (more_ascii 46 [] (omega arith) IsAscii-nil))
-    (IsAscii-append (written_name (key_name m) (key_count m)) (repeat_mark k) (written_ascii (key_name m) (key_count m) (named_plain m h) (named_few m h)) (mark_ascii k few))
+raw_ascii : (class name : List ℕ) (count : Option ℕ) (k : ℕ) → IsPlain class → IsPlain name → IsFew count → k < 2 ^ 64 → IsAscii (raw_key class name count k)
+raw_ascii class name count k p q f few =
+    IsAscii-append (class ++ 46 ∷ []) (tail_by name count k) (IsAscii-append class (46 ∷ []) (plain_ascii class p) (more_ascii 46 [] (omega arith) IsAscii-nil))
+    (IsAscii-append (written_name name count) (repeat_mark k) (written_ascii name count q f) (mark_ascii k few))
 
 ascii_stays : (name : List ℕ) → IsAscii name → text_of name ≡ name
 ascii_stays name ascii = utf8_lossy-IsUtf8 name (IsUtf8-from_ascii name ascii)
 
-key_is : (class : List ℕ) (m : MemberTree) (k : ℕ) → IsPlain class → IsNamed m → k < 2 ^ 64 → key_with class m k ≡ raw_key class m k
-key_is class m k p h few = ascii_stays (raw_key class m k) (raw_ascii class m k p h few)
+key_is : (class name : List ℕ) (count : Option ℕ) (k : ℕ) → IsPlain class → IsPlain name → IsFew count → k < 2 ^ 64 → member_key class name count k ≡ raw_key class name count k
+key_is class name count k p q f few = ascii_stays (raw_key class name count k) (raw_ascii class name count k p q f few)
 
--- a key tells the slot and the number
+-- a key tells what it is made of
+pub key_parts : (class a b : List ℕ) (x y : Option ℕ) (j k : ℕ) → IsPlain class → IsPlain a → IsPlain b → IsFew x → IsFew y → 0 < j → 0 < k → j < 2 ^ 64 → k < 2 ^ 64
+    → member_key class a x j ≡ member_key class b y k → (a ≡ b) × (x ≡ y) × (j ≡ k)
+key_parts class a b x y j k p q r f g low low' few few' e =
+    let raw : raw_key class a x j ≡ raw_key class b y k = sym (key_is class a x j p q f few) ∙ e ∙ key_is class b y k p r g few' in
+    let tails : tail_by a x j ≡ tail_by b y k = after_front (class ++ 46 ∷ []) (tail_by a x j) (tail_by b y k) raw in
+    let parts = cut 126 (written_name a x) (written_name b y) (repeat_mark j) (repeat_mark k) (written_tilde a x q f) (written_tilde b y r g) (mark_begins j) (mark_begins k) tails in
+    let names = written_same a b x y q r f g parts.0 in
+    (names.0, names.1, mark_same j k low low' few few' parts.1)
+
+-- a member's key tells its slot and its number
 key_tells : (class : List ℕ) (m n : MemberTree) (j k : ℕ) → IsPlain class → IsNamed m → IsNamed n → 0 < j → 0 < k → j < 2 ^ 64 → k < 2 ^ 64
     → key_with class m j ≡ key_with class n k → (slot_of m ≡ slot_of n) × (j ≡ k)
 key_tells class m n j k p h g low low' few few' e =
-    let raw : raw_key class m j ≡ raw_key class n k = sym (key_is class m j p h few) ∙ e ∙ key_is class n k p g few' in
-    let tails : tail_of m j ≡ tail_of n k = after_front (class ++ 46 ∷ []) (tail_of m j) (tail_of n k) raw in
-    let parts = cut 126 (written_name (key_name m) (key_count m)) (written_name (key_name n) (key_count n)) (repeat_mark j) (repeat_mark k)
-    (written_tilde (key_name m) (key_count m) (named_plain m h) (named_few m h)) (written_tilde (key_name n) (key_count n) (named_plain n g) (named_few n g))
-    (mark_begins j) (mark_begins k) tails in
-    let names = written_same (key_name m) (key_name n) (key_count m) (key_count n) (named_plain m h) (named_plain n g) (named_few m h) (named_few n g) parts.0 in
-    (slot_is m h ∙ (λ i. slot_by (names.0 i) (names.1 i)) ∙ sym (slot_is n g), mark_same j k low low' few few' parts.1)
+    let parts = key_parts class (key_name m) (key_name n) (key_count m) (key_count n) j k p (named_plain m h) (named_plain n g) (named_few m h) (named_few n g) low low' few few' e in
+    (slot_is m h ∙ (λ i. slot_by (parts.0 i) (parts.1 i)) ∙ sym (slot_is n g), parts.2)
 
 -- ---- the keys of the members
 
@@ -238,20 +243,26 @@ distinct_after class slots (m ∷ ms) p all few =
 abbrev IsOf : List ℕ → List ℕ → Type 0
 IsOf class key = (tail : List ℕ) × Begins 46 tail × (key ≡ class ++ tail)
 
+abbrev tail_of : MemberTree → ℕ → List ℕ
+tail_of m k = tail_by (key_name m) (key_count m) k
+
 is_of : (class : List ℕ) (m : MemberTree) (k : ℕ) → IsPlain class → IsNamed m → k < 2 ^ 64 → key_with class m k ≡ class ++ (46 ∷ tail_of m k)
-is_of class m k p h few = key_is class m k p h few ∙ append_assoc class (46 ∷ []) (tail_of m k)
+is_of class m k p h few = key_is class (key_name m) (key_count m) k p (named_plain m h) (named_few m h) few ∙ append_assoc class (46 ∷ []) (tail_of m k)
+
+-- the header's key is no member's
+pub header_other : (class name : List ℕ) (count : Option ℕ) (k : ℕ) → IsPlain class → IsPlain name → IsFew count → k < 2 ^ 64 → text_of class ≢ member_key class name count k
+header_other class name count k p q f few e =
+    let raw : class ≡ class ++ (46 ∷ tail_by name count k) =
+    sym (ascii_stays class (plain_ascii class p)) ∙ e ∙ key_is class name count k p q f few ∙ append_assoc class (46 ∷ []) (tail_by name count k) in
+    omega (arith, ap length raw, length-append class (46 ∷ tail_by name count k))
 
 header_lacks : (class : List ℕ) (slots : List (List ℕ)) (ms : List MemberTree) → IsPlain class → AllByRecursion IsNamed ms
     → length slots + length ms < 2 ^ 64 → Lacks (text_of class) (keys_after class slots ms)
 header_lacks class slots [] p all few = tt
 header_lacks class slots (m ∷ ms) p all few =
     let within : times slots (slot_of m) ≤ length slots = count_by-le-length (λ s. bytes_eq s (slot_of m)) slots in
-    let long : length (slots ++ slot_of m ∷ []) ≡ length slots + 1 = length-append slots (slot_of m ∷ []) in
-    let k : ℕ = times slots (slot_of m) + 1 in (
-      (λ e.
-          let raw : class ≡ class ++ (46 ∷ tail_of m (times slots (slot_of m) + 1)) =
-          sym (ascii_stays class (plain_ascii class p)) ∙ e ∙ is_of class m (times slots (slot_of m) + 1) p all.0 (omega arith) in
-          omega (arith, ap length raw, length-append class (46 ∷ tail_of m (times slots (slot_of m) + 1)))),
+    let long : length (slots ++ slot_of m ∷ []) ≡ length slots + 1 = length-append slots (slot_of m ∷ []) in (
+      header_other class (key_name m) (key_count m) (times slots (slot_of m) + 1) p (named_plain m all.0) (named_few m all.0) (omega arith),
       header_lacks class (slots ++ slot_of m ∷ []) ms p all.1 (omega arith),
     )
 
