@@ -1,11 +1,11 @@
 -- The running list of claims is that of a place's ancestors.
-use Rattle.std.proofs.Common.{◌≡◌, refl, ℕ, Bool, List, [], ◌∷◌, ◌++◌, sym, ap, ◌∙◌, append_assoc}
+use Rattle.std.proofs.Common.{◌≡◌, refl, ℕ, Bool, List, [], ◌∷◌, ◌++◌, Option, Some, None, sym, ap, ◌∙◌, append_assoc}
 use Rattle.std.proofs.lemmas.List.{append-nil}
-use Rattle.bound_tree.specs.declared.claim.Claim.{Claim}
-use Rattle.bound_tree.specs.declared.claim.Claim.TheVariants as claim
-use Rattle.bound_tree.specs.Tree.{Term, Terms, Statement, Statements, stamp_of}
+use Rattle.bound_tree.specs.Claim.{Claim}
+use Rattle.bound_tree.specs.Claim as claim
+use Rattle.bound_tree.specs.Tree.{Term, Terms, Statement, Statements, stamp_of, base_of}
 use Rattle.bound_tree.specs.Tree as t
-use Rattle.bound_tree.specs.Places.{Frame, InSync, InClass, Place, Goal, Locks, here, inside, under, term_places, args_places, base_places, target_read, target_written, one_term, two_terms, places, places_all}
+use Rattle.bound_tree.specs.Places.{Frame, InSync, InClass, Place, Goal, Locks, here, inside, under, term_places, args_places, base_places, Access, access_of, read_places, written_places, one_term, two_terms, places, places_all}
 use Rattle.bound_tree.specs.Claims.{claim_of, listed, frame_claims, claims_of, Seen, seen, all_seen, with_claims, walked, walked_all}
 
 pub seen-both : (varies : ℕ → Bool) (held : List Claim) (ps qs : List Place)
@@ -34,8 +34,8 @@ bare-both (p ∷ ps) qs g h = (g.0, bare-both ps qs g.1 h)
 bare-seen : (varies : ℕ → Bool) (held : List Claim) (ps : List Place) → Bare ps → with_claims held ps ≡ all_seen varies held ps
 bare-seen varies held [] h = refl
 bare-seen varies held (p ∷ ps) h =
-    ap (λ (l : List Seen). record { claims = held; phrase = p.phrase; at = p.at; what = p.what } ∷ l) (bare-seen varies held ps h.1)
-    ∙ ap (λ (cs : List Claim). record { claims = cs; phrase = p.phrase; at = p.at; what = p.what } ∷ all_seen varies held ps)
+    ap (λ (l : List Seen). record { claims = held; phrase = p.phrase; faulty = p.faulty; at = p.at; what = p.what } ∷ l) (bare-seen varies held ps h.1)
+    ∙ ap (λ (cs : List Claim). record { claims = cs; phrase = p.phrase; faulty = p.faulty; at = p.at; what = p.what } ∷ all_seen varies held ps)
     (sym (ap (λ (fs : List Frame). held ++ claims_of varies fs) h.0 ∙ append-nil held))
 
 mutual
@@ -61,20 +61,17 @@ mutual
   args-bare ph to n t.no_terms = tt
   args-bare ph to n (t.term e es) = bare-both (term_places ph e) _ (term-bare ph e) (refl, args-bare ph to _ es)
 
-base-bare : (ph : Terms) (to : Term) → Bare (base_places ph to)
-base-bare ph (t.Field s b f) = term-bare ph b
-base-bare ph (t.UnknownField s b n) = term-bare ph b
-base-bare ph _ = tt
+base-bare : (ph : Terms) (b : Option Term) → Bare (base_places ph b)
+base-bare ph None = tt
+base-bare ph (Some b) = term-bare ph b
 
-read-bare : (ph : Terms) (to : Term) → Bare (target_read ph to)
-read-bare ph (t.Field s b f) = (refl, tt)
-read-bare ph (t.Static s f) = (refl, tt)
-read-bare ph _ = tt
+read-bare : (ph : Terms) (a : Option Access) → Bare (read_places ph a)
+read-bare ph None = tt
+read-bare ph (Some a) = (refl, tt)
 
-written-bare : (ph : Terms) (to : Term) → Bare (target_written ph to)
-written-bare ph (t.Field s b f) = (refl, tt)
-written-bare ph (t.Static s f) = (refl, tt)
-written-bare ph _ = tt
+written-bare : (ph : Terms) (a : Option Access) → Bare (written_places ph a)
+written-bare ph None = tt
+written-bare ph (Some a) = (refl, tt)
 
 -- ---- the walk
 
@@ -85,13 +82,13 @@ mutual
       bare-seen varies held (places (t.Declare p x ty v)) (bare-both (term_places (one_term v) v) _ (term-bare (one_term v) v) (refl, tt))
   walked-seen varies held (t.Assign to v) =
       bare-seen varies held (places (t.Assign to v))
-      (bare-both (base_places (two_terms to v) to) _ (base-bare (two_terms to v) to)
-      (bare-both (term_places (two_terms to v) v) _ (term-bare (two_terms to v) v) (refl, written-bare (two_terms to v) to)))
+      (bare-both (base_places (two_terms to v) (base_of to)) _ (base-bare (two_terms to v) (base_of to))
+      (bare-both (term_places (two_terms to v) v) _ (term-bare (two_terms to v) v) (refl, written-bare (two_terms to v) (access_of to))))
   walked-seen varies held (t.Compound to o v) =
       bare-seen varies held (places (t.Compound to o v))
-      (bare-both (base_places (two_terms to v) to) _ (base-bare (two_terms to v) to)
-      (bare-both (target_read (two_terms to v) to) _ (read-bare (two_terms to v) to)
-      (bare-both (term_places (two_terms to v) v) _ (term-bare (two_terms to v) v) (written-bare (two_terms to v) to))))
+      (bare-both (base_places (two_terms to v) (base_of to)) _ (base-bare (two_terms to v) (base_of to))
+      (bare-both (read_places (two_terms to v) (access_of to)) _ (read-bare (two_terms to v) (access_of to))
+      (bare-both (term_places (two_terms to v) v) _ (term-bare (two_terms to v) v) (written-bare (two_terms to v) (access_of to)))))
   walked-seen varies held (t.Perform v) = bare-seen varies held (term_places (one_term v) v) (term-bare (one_term v) v)
   walked-seen varies held (t.Start p v) =
       bare-seen varies held (places (t.Start p v)) (bare-both (term_places (one_term v) v) _ (term-bare (one_term v) v) (refl, (refl, tt)))
@@ -107,12 +104,12 @@ mutual
       ∙ ap (λ (l : List Seen). all_seen varies held (term_places (one_term v) v) ++ l) (walked-seen varies held a))
   walked-seen varies held (t.Sync v a) =
       ap (λ (l : List Seen). l ++ walked varies (held ++ listed (claim_of varies v)) a)
-      (bare-seen varies held (term_places (one_term v) v ++ here (one_term v) (stamp_of v).first (Locks v))
+      (bare-seen varies held (term_places (one_term v) v ++ here (one_term v) (stamp_of v).is_faulty (stamp_of v).first (Locks v))
       (bare-both (term_places (one_term v) v) _ (term-bare (one_term v) v) (refl, tt)))
-      ∙ ap (λ (l : List Seen). all_seen varies held (term_places (one_term v) v ++ here (one_term v) (stamp_of v).first (Locks v)) ++ l)
+      ∙ ap (λ (l : List Seen). all_seen varies held (term_places (one_term v) v ++ here (one_term v) (stamp_of v).is_faulty (stamp_of v).first (Locks v)) ++ l)
       (walked-seen varies (held ++ listed (claim_of varies v)) a ∙ sym (seen-under varies held (InSync v) (places a)))
-      ∙ sym (seen-both varies held (term_places (one_term v) v ++ here (one_term v) (stamp_of v).first (Locks v)) (under (InSync v) (places a)))
-      ∙ ap (all_seen varies held) (append_assoc (term_places (one_term v) v) (here (one_term v) (stamp_of v).first (Locks v)) (under (InSync v) (places a)))
+      ∙ sym (seen-both varies held (term_places (one_term v) v ++ here (one_term v) (stamp_of v).is_faulty (stamp_of v).first (Locks v)) (under (InSync v) (places a)))
+      ∙ ap (all_seen varies held) (append_assoc (term_places (one_term v) v) (here (one_term v) (stamp_of v).is_faulty (stamp_of v).first (Locks v)) (under (InSync v) (places a)))
   walked-seen varies held (t.SyncClass p c a) =
       walked-seen varies (held ++ claim.Class c ∷ []) a ∙ sym (seen-under varies held (InClass c) (places a))
   walked-seen varies held (t.Return p) = refl
@@ -127,5 +124,5 @@ mutual
       ∙ ap (λ (l : List Seen). all_seen varies held (places s) ++ l) (walked_all-seen varies held ss))
 
 -- with nothing held before, the claims are those of the ancestors
-pub nothing-held : (varies : ℕ → Bool) (p : Place) → seen varies [] p ≡ record { claims = claims_of varies p.around; phrase = p.phrase; at = p.at; what = p.what }
+pub nothing-held : (varies : ℕ → Bool) (p : Place) → seen varies [] p ≡ record { claims = claims_of varies p.around; phrase = p.phrase; faulty = p.faulty; at = p.at; what = p.what }
 nothing-held varies p = refl

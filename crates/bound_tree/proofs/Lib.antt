@@ -5,3 +5,8 @@ pub mod Forwards
 pub mod Claims
 pub mod Clean
 pub mod Pushing
+pub mod Passing
+pub mod Walks
+pub mod CallSteps
+pub mod Marking
+pub mod Counting

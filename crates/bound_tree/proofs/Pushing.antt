@@ -1,11 +1,11 @@
 -- A way that is put before a flow.
-use Rattle.std.proofs.Common.{◌≡◌, refl, ℕ, List, [], ◌∷◌, ◌++◌, map, sym, ap, ◌∙◌}
+use Rattle.std.proofs.Common.{◌≡◌, refl, ℕ, List, [], ◌∷◌, ◌++◌, sym, ap, ◌∙◌}
 use Rattle.bound_tree.specs.Flows.{Flow, End, Names, Sets, Leaves, Either, Again}
-use Rattle.bound_tree.specs.Ways.{onto, way_layer, way_of, flow_from, whole}
+use Rattle.bound_tree.specs.Ways.{way_layer, way_of, flow_from, whole}
 use Rattle.bound_tree.specs.declared.way.Way.{Way}
 use Rattle.bound_tree.specs.declared.way.Way.TheVariants as w
 use Rattle.bound_tree.specs.declared.way.Way.TheOpen.{Way-F}
-use Rattle.bound_tree.specs.declared.way.Way.TheFolds.{fold-Way, fold-roll-Way}
+use Rattle.bound_tree.specs.declared.way.Way.TheFolds.{fold-roll-Way}
 
 pub onto-last : (ws : List Way) (v : Way) (k : Flow) → flow_from (ws ++ v ∷ []) k ≡ way_of v (flow_from ws k)
 onto-last [] v k = refl

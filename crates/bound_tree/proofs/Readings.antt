@@ -13,11 +13,11 @@ use Rattle.bound_tree.specs.declared.tree.UnaryOp.{UnaryOp}
 use Rattle.bound_tree.specs.declared.tree.Expr.{Expr}
 use Rattle.bound_tree.specs.declared.tree.Expr.TheVariants as e
 use Rattle.bound_tree.specs.declared.tree.Expr.TheOpen.{Expr-F}
-use Rattle.bound_tree.specs.declared.tree.Expr.TheFolds.{fold-Expr, fold-roll-Expr}
+use Rattle.bound_tree.specs.declared.tree.Expr.TheFolds.{fold-roll-Expr}
 use Rattle.bound_tree.specs.declared.tree.Stmt.{Stmt}
 use Rattle.bound_tree.specs.declared.tree.Stmt.TheVariants as s
 use Rattle.bound_tree.specs.declared.tree.Stmt.TheOpen.{Stmt-F}
-use Rattle.bound_tree.specs.declared.tree.Stmt.TheFolds.{fold-Stmt, fold-roll-Stmt}
+use Rattle.bound_tree.specs.declared.tree.Stmt.TheFolds.{fold-roll-Stmt}
 
 pub term_of-Const : (p : Stamp) (l : Literal) → term_of (e.Const p l) ≡ t.Const p l
 unfolding term_of

@@ -1,24 +1,25 @@
 -- The monitors that stand around a place, by what names them, and when a lock is held there.
 use Rattle.std.specs.Prelude.{◌≡◌, ◌⊎◌, ℕ, ◌==◌, ◌||◌, Bool, true, false, List, [], ◌∷◌, ◌++◌, Option, Some, None, get_or, if◌then◌else◌}
-use Rattle.bound_tree.specs.declared.claim.Claim.{Claim}
-use Rattle.bound_tree.specs.declared.claim.Claim.TheVariants as claim
+use Rattle.bound_tree.specs.Claim.{Claim}
+use Rattle.bound_tree.specs.Claim as claim
 use Rattle.bound_tree.specs.declared.name.FieldName.{FieldName}
-use Rattle.bound_tree.specs.Tree.{Term, Terms, Statement, Statements}
+use Rattle.bound_tree.specs.declared.tree.Naming.{Naming}
+use Rattle.bound_tree.specs.Tree.{Term, Terms, Statement, Statements, local_of}
 use Rattle.bound_tree.specs.Tree as t
 use Rattle.bound_tree.specs.Places.{Frame, InSync, InClass, InMember, What, Locks, Place, here, term_places, one_term, places}
 
 -- ---- which locals are assigned after their declaration
 
-abbrev pub target_local : Term → List ℕ
-target_local (t.Local s x) = x ∷ []
-target_local _ = []
+abbrev pub assigned_local : Option Naming → List ℕ
+assigned_local None = []
+assigned_local (Some n) = n.local ∷ []
 
 abbrev mutual
   pub assigned : Statement → List ℕ
   assigned (t.Block ss) = assigned_all ss
   assigned (t.Declare p x ty v) = []
-  assigned (t.Assign to v) = target_local to
-  assigned (t.Compound to o v) = target_local to
+  assigned (t.Assign to v) = assigned_local (local_of to)
+  assigned (t.Compound to o v) = assigned_local (local_of to)
   assigned (t.Perform v) = []
   assigned (t.Start p v) = []
   assigned (t.If v a b) = assigned a ++ assigned b
@@ -46,9 +47,12 @@ abbrev pub varies_in : List Bool → ℕ → Bool
 varies_in table x = get_or table x false
 
 -- of `this` or of a local that is never assigned (JLS 8, 4.12.4)
+abbrev pub steady : (ℕ → Bool) → ℕ → Option ℕ
+steady varies x = if varies x then None else Some x
+
 abbrev pub local_claim : (ℕ → Bool) → Term → Option ℕ
 local_claim varies (t.This s) = Some 0
-local_claim varies (t.Local s x) = if varies x then None else Some x
+local_claim varies (t.Local s x) = steady varies x
 local_claim varies _ = None
 
 abbrev pub field_claim : Bool → Option ℕ → FieldName → Option Claim
@@ -121,12 +125,13 @@ Held varies p lock base = HoldsOf (claims_of varies p.around) (lock_claim varies
 pub record Seen : Type 0 where
   pub claims : List Claim
   pub phrase : Terms
+  pub faulty : Bool
   pub at : ℕ
   pub what : What
 
 -- a place, where these claims stand around all of it
 abbrev pub seen : (ℕ → Bool) → List Claim → Place → Seen
-seen varies held p = record { claims = held ++ claims_of varies p.around; phrase = p.phrase; at = p.at; what = p.what }
+seen varies held p = record { claims = held ++ claims_of varies p.around; phrase = p.phrase; faulty = p.faulty; at = p.at; what = p.what }
 
 abbrev pub all_seen : (ℕ → Bool) → List Claim → List Place → List Seen
 all_seen varies held [] = []
@@ -135,7 +140,7 @@ all_seen varies held (p ∷ ps) = seen varies held p ∷ all_seen varies held ps
 -- the places of a part without statements, all of which have the running claims
 abbrev pub with_claims : List Claim → List Place → List Seen
 with_claims held [] = []
-with_claims held (p ∷ ps) = record { claims = held; phrase = p.phrase; at = p.at; what = p.what } ∷ with_claims held ps
+with_claims held (p ∷ ps) = record { claims = held; phrase = p.phrase; faulty = p.faulty; at = p.at; what = p.what } ∷ with_claims held ps
 
 abbrev mutual
   pub walked : (ℕ → Bool) → List Claim → Statement → List Seen
@@ -148,7 +153,7 @@ abbrev mutual
   walked varies held (t.If v a b) = with_claims held (term_places (one_term v) v) ++ (walked varies held a ++ walked varies held b)
   walked varies held (t.While v a) = with_claims held (term_places (one_term v) v) ++ walked varies held a
   walked varies held (t.Sync v a) =
-      with_claims held (term_places (one_term v) v ++ here (one_term v) (t.stamp_of v).first (Locks v))
+      with_claims held (term_places (one_term v) v ++ here (one_term v) (t.stamp_of v).is_faulty (t.stamp_of v).first (Locks v))
       ++ walked varies (held ++ listed (claim_of varies v)) a
   walked varies held (t.SyncClass p c a) = walked varies (held ++ claim.Class c ∷ []) a
   walked varies held (t.Return p) = []

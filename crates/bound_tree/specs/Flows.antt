@@ -1,6 +1,7 @@
 -- How the locals of a unit are named and set, by the statements' shape alone.
-use Rattle.std.specs.Prelude.{ℕ}
-use Rattle.bound_tree.specs.Tree.{Term, Terms, Statement, Statements}
+use Rattle.std.specs.Prelude.{ℕ, Option, Some, None}
+use Rattle.bound_tree.specs.declared.tree.Naming.{Naming}
+use Rattle.bound_tree.specs.Tree.{Term, Terms, Statement, Statements, local_of, base_of}
 use Rattle.bound_tree.specs.Tree as t
 
 -- what is done to locals, each with what comes after it: a local is named at a token; a local is set,
@@ -31,7 +32,7 @@ abbrev mutual
   in_term (t.UnknownCall s r n es) k = in_term r (in_terms es k)
   in_term (t.Unary s o a) k = in_term a k
   in_term (t.And s a b) k = in_term a (Either (in_term b End) End k)
-  in_term (t.Or s a b) k = in_term a (Either (in_term b End) End k)
+  in_term (t.Or s a b) k = in_term a (Either End (in_term b End) k)
   in_term (t.Binary s o a b) k = in_term a (in_term b k)
 
   pub in_terms : Terms → Flow → Flow
@@ -39,25 +40,24 @@ abbrev mutual
   in_terms (t.term e es) k = in_term e (in_terms es k)
 
 -- a target's base, the read of a target that is a local, and its write
-abbrev pub in_base : Term → Flow → Flow
-in_base (t.Field s b f) k = in_term b k
-in_base (t.UnknownField s b n) k = in_term b k
-in_base _ k = k
+abbrev pub in_any : Option Term → Flow → Flow
+in_any None k = k
+in_any (Some e) k = in_term e k
 
-abbrev pub target_named : Term → Flow → Flow
-target_named (t.Local s x) k = Names x s.at k
-target_named _ k = k
+abbrev pub local_named : Option Naming → Flow → Flow
+local_named None k = k
+local_named (Some n) k = Names n.local n.at k
 
-abbrev pub target_set : Term → Flow → Flow
-target_set (t.Local s x) k = Sets x k
-target_set _ k = k
+abbrev pub local_set : Option Naming → Flow → Flow
+local_set None k = k
+local_set (Some n) k = Sets n.local k
 
 abbrev mutual
   pub in_statement : Statement → Flow → Flow
   in_statement (t.Block ss) k = in_statements ss k
   in_statement (t.Declare p x ty v) k = in_term v (Sets x k)
-  in_statement (t.Assign to v) k = in_base to (in_term v (target_set to k))
-  in_statement (t.Compound to o v) k = in_base to (target_named to (in_term v (target_set to k)))
+  in_statement (t.Assign to v) k = in_any (base_of to) (in_term v (local_set (local_of to) k))
+  in_statement (t.Compound to o v) k = in_any (base_of to) (local_named (local_of to) (in_term v (local_set (local_of to) k)))
   in_statement (t.Perform v) k = in_term v k
   in_statement (t.Start p v) k = in_term v k
   in_statement (t.If v a b) k = in_term v (Either (in_statement a End) (in_statement b End) k)

@@ -1,6 +1,6 @@
 -- What is proved of bound trees, each as one statement.
 use Rattle.std.specs.Prelude.{◌≡◌, ◌↔◌, ℕ, Bool, true, false, List, [], ◌++◌}
-use Rattle.bound_tree.specs.declared.claim.Claim.{Claim}
+use Rattle.bound_tree.specs.Claim.{Claim}
 use Rattle.bound_tree.specs.Tree.{Terms, Statement}
 use Rattle.bound_tree.specs.Places.{Frame, Place, under, places}
 use Rattle.bound_tree.specs.Claims.{claims_of, frame_claims, seen, all_seen, walked}
@@ -25,7 +25,7 @@ PartByPart = (varies : ℕ → Bool) (held : List Claim) (ps qs : List Place)
 -- with nothing held around all of it, they are the ancestors' alone
 abbrev pub AncestorsAlone : Type 0
 AncestorsAlone = (varies : ℕ → Bool) (p : Place)
-    → seen varies [] p ≡ record { claims = claims_of varies p.around; phrase = p.phrase; at = p.at; what = p.what }
+    → seen varies [] p ≡ record { claims = claims_of varies p.around; phrase = p.phrase; faulty = p.faulty; at = p.at; what = p.what }
 
 -- a local is live exactly where some run names it before it sets it
 abbrev pub LiveIsNamed : Type 0

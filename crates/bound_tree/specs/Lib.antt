@@ -1,7 +1,10 @@
 pub mod Tree
 pub mod Reading
 pub mod Places
+pub mod Claim
 pub mod Claims
+pub mod Shown
+pub mod Walked
 pub mod Flows
 pub mod Runs
 pub mod Live

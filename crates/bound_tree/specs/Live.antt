@@ -1,6 +1,6 @@
 -- The working forms: what is asked of all runs, by one pass over the flow. A pass backwards knows of a
 -- local whether it can be named later, a pass forwards whether it can have been spent before.
-use Rattle.std.specs.Prelude.{ℕ, ◌==◌, ◌&&◌, ◌||◌, not, Bool, true, false, if◌then◌else◌}
+use Rattle.std.specs.Prelude.{ℕ, ◌==◌, ◌&&◌, ◌||◌, not, Bool, true, false, List, get_or, if◌then◌else◌}
 use Rattle.bound_tree.specs.Tree.{Terms}
 use Rattle.bound_tree.specs.Runs.{namings_in}
 use Rattle.bound_tree.specs.Flows.{Flow, End, Names, Sets, Leaves, Either, Again}
@@ -28,6 +28,10 @@ named_later x q (Again a r) k = named_later x q a (live x r k || live x a (live 
 
 -- ---- forwards, `k` being whether the local was spent before the flow; `spends` are the tokens at which
 -- a naming spends
+
+-- as a table by tokens says
+abbrev pub spends_in : List Bool → ℕ → Bool
+spends_in table p = get_or table p false
 
 abbrev pub spent_by : ℕ → (ℕ → Bool) → ℕ → ℕ → Bool → Bool
 spent_by x spends y p k = if x == y then spends p || k else k

@@ -1,13 +1,12 @@
 -- The places of a unit: where a field is read or written, a method is called, an object made, a thread
 -- started, a monitor named, or a value flows; each with what stands around it.
-use Rattle.std.specs.Prelude.{ℕ, ◌+◌, Bool, true, false, List, [], ◌∷◌, ◌++◌}
+use Rattle.std.specs.Prelude.{ℕ, ◌+◌, Bool, true, false, List, [], ◌∷◌, ◌++◌, Option, Some, None}
 use Rattle.bound_tree.specs.declared.name.FieldName.{FieldName}
 use Rattle.bound_tree.specs.declared.name.MemberName.{MemberName}
-use Rattle.bound_tree.specs.declared.unit.Body.{Body}
 use Rattle.bound_tree.specs.declared.unit.BoundTree.{BoundTree}
 use Rattle.bound_tree.specs.declared.unit.Part.{Part}
 use Rattle.bound_tree.specs.declared.unit.Part.TheVariants as part
-use Rattle.bound_tree.specs.Tree.{Term, Terms, Statement, Statements, no_terms, term, no_statements, statement, stamp_of}
+use Rattle.bound_tree.specs.Tree.{Term, Terms, Statement, Statements, no_terms, term, no_statements, statement, stamp_of, base_of}
 use Rattle.bound_tree.specs.Tree as t
 use Rattle.bound_tree.specs.Reading.{statement_of}
 
@@ -45,15 +44,17 @@ pub data What : Type 0 where
   Flows : Term → Goal → What
 
 -- what stands around it, outermost first; the expressions of the smallest action, declaration,
--- condition, `synchronized` head or `return` that it stands in; the number of its token
+-- condition, `synchronized` head or `return` that it stands in; whether the access, the call, the
+-- object made or the value is faulty; the number of its token
 pub record Place : Type 0 where
   pub around : List Frame
   pub phrase : Terms
+  pub faulty : Bool
   pub at : ℕ
   pub what : What
 
-abbrev pub here : Terms → ℕ → What → List Place
-here ph p w = record { around = []; phrase = ph; at = p; what = w } ∷ []
+abbrev pub here : Terms → Bool → ℕ → What → List Place
+here ph faulty p w = record { around = []; phrase = ph; faulty = faulty; at = p; what = w } ∷ []
 
 abbrev pub inside : Frame → Place → Place
 inside f p = record p { around = f ∷ p.around }
@@ -64,7 +65,7 @@ under f (p ∷ ps) = inside f p ∷ under f ps
 
 -- a value that goes somewhere, at its first token
 abbrev pub goes : Terms → Term → Goal → List Place
-goes ph e g = here ph (stamp_of e).first (Flows e g)
+goes ph e g = here ph (stamp_of e).is_faulty (stamp_of e).first (Flows e g)
 
 -- those of an expression, in the order of evaluation (JLS 8, 15.7)
 abbrev mutual
@@ -72,12 +73,12 @@ abbrev mutual
   term_places ph (t.Const s l) = []
   term_places ph (t.This s) = []
   term_places ph (t.Local s x) = []
-  term_places ph (t.Field s b f) = term_places ph b ++ here ph s.at (Reads f (Of b))
-  term_places ph (t.Static s f) = here ph s.at (Reads f OfClass)
-  term_places ph (t.New s c es) = args_places ph (ToConstructor c) 0 es ++ here ph s.at (Makes c es)
+  term_places ph (t.Field s b f) = term_places ph b ++ here ph s.is_faulty s.at (Reads f (Of b))
+  term_places ph (t.Static s f) = here ph s.is_faulty s.at (Reads f OfClass)
+  term_places ph (t.New s c es) = args_places ph (ToConstructor c) 0 es ++ here ph s.is_faulty s.at (Makes c es)
   term_places ph (t.Call s r m es) =
-      term_places ph r ++ (goes ph r (ToReceiver m) ++ (args_places ph (ToArgument m) 0 es ++ here ph s.at (Calls m (Of r) es)))
-  term_places ph (t.CallStatic s m es) = args_places ph (ToArgument m) 0 es ++ here ph s.at (Calls m OfClass es)
+      term_places ph r ++ (goes ph r (ToReceiver m) ++ (args_places ph (ToArgument m) 0 es ++ here ph s.is_faulty s.at (Calls m (Of r) es)))
+  term_places ph (t.CallStatic s m es) = args_places ph (ToArgument m) 0 es ++ here ph s.is_faulty s.at (Calls m OfClass es)
   term_places ph (t.Unknown s n es) = args_places ph (λ _. ToNothing n) 0 es
   term_places ph (t.UnknownField s b n) = term_places ph b
   term_places ph (t.UnknownCall s r n es) = term_places ph r ++ (goes ph r (ToNothing n) ++ args_places ph (λ _. ToNothing n) 0 es)
@@ -94,20 +95,29 @@ abbrev mutual
 -- ---- targets of assignments: what is evaluated before the value, the read, the write, and where the
 -- value goes
 
-abbrev pub base_places : Terms → Term → List Place
-base_places ph (t.Field s b f) = term_places ph b
-base_places ph (t.UnknownField s b n) = term_places ph b
-base_places ph _ = []
+abbrev pub base_places : Terms → Option Term → List Place
+base_places ph None = []
+base_places ph (Some b) = term_places ph b
 
-abbrev pub target_read : Terms → Term → List Place
-target_read ph (t.Field s b f) = here ph s.at (Reads f (Of b))
-target_read ph (t.Static s f) = here ph s.at (Reads f OfClass)
-target_read ph _ = []
+-- the field that a target is, whose it is, where, and whether it is faulty
+pub record Access : Type 0 where
+  pub faulty : Bool
+  pub at : ℕ
+  pub field : FieldName
+  pub owner : Owner
 
-abbrev pub target_written : Terms → Term → List Place
-target_written ph (t.Field s b f) = here ph s.at (Writes f (Of b))
-target_written ph (t.Static s f) = here ph s.at (Writes f OfClass)
-target_written ph _ = []
+abbrev pub access_of : Term → Option Access
+access_of (t.Field s b f) = Some (record { faulty = s.is_faulty; at = s.at; field = f; owner = Of b })
+access_of (t.Static s f) = Some (record { faulty = s.is_faulty; at = s.at; field = f; owner = OfClass })
+access_of _ = None
+
+abbrev pub read_places : Terms → Option Access → List Place
+read_places ph None = []
+read_places ph (Some a) = here ph a.faulty a.at (Reads a.field a.owner)
+
+abbrev pub written_places : Terms → Option Access → List Place
+written_places ph None = []
+written_places ph (Some a) = here ph a.faulty a.at (Writes a.field a.owner)
 
 abbrev pub target_goal : Term → Goal
 target_goal (t.Local s x) = ToLocal x
@@ -130,17 +140,17 @@ abbrev mutual
   places (t.Block ss) = places_all ss
   places (t.Declare p x ty v) = term_places (one_term v) v ++ goes (one_term v) v (ToLocal x)
   places (t.Assign to v) =
-      base_places (two_terms to v) to
-      ++ (term_places (two_terms to v) v ++ (goes (two_terms to v) v (target_goal to) ++ target_written (two_terms to v) to))
+      base_places (two_terms to v) (base_of to)
+      ++ (term_places (two_terms to v) v ++ (goes (two_terms to v) v (target_goal to) ++ written_places (two_terms to v) (access_of to)))
   places (t.Compound to o v) =
-      base_places (two_terms to v) to
-      ++ (target_read (two_terms to v) to ++ (term_places (two_terms to v) v ++ target_written (two_terms to v) to))
+      base_places (two_terms to v) (base_of to)
+      ++ (read_places (two_terms to v) (access_of to) ++ (term_places (two_terms to v) v ++ written_places (two_terms to v) (access_of to)))
   places (t.Perform v) = term_places (one_term v) v
-  places (t.Start p v) = term_places (one_term v) v ++ (goes (one_term v) v ToThread ++ here (one_term v) p (Starts v))
+  places (t.Start p v) = term_places (one_term v) v ++ (goes (one_term v) v ToThread ++ here (one_term v) (stamp_of v).is_faulty p (Starts v))
   places (t.If v a b) = term_places (one_term v) v ++ (places a ++ places b)
   places (t.While v a) = term_places (one_term v) v ++ places a
   places (t.Sync v a) =
-      term_places (one_term v) v ++ (here (one_term v) (stamp_of v).first (Locks v) ++ under (InSync v) (places a))
+      term_places (one_term v) v ++ (here (one_term v) (stamp_of v).is_faulty (stamp_of v).first (Locks v) ++ under (InSync v) (places a))
   places (t.SyncClass p c a) = under (InClass c) (places a)
   places (t.Return p) = []
   places (t.ReturnValue p v) = term_places (one_term v) v ++ goes (one_term v) v ToResult

@@ -1,5 +1,5 @@
 -- The tree of the program as plain data.
-use Rattle.std.specs.Prelude.{List, [], ◌∷◌, map}
+use Rattle.std.specs.Prelude.{List, [], ◌∷◌, map, Option, Some, None}
 use Rattle.bound_tree.specs.Tree.{Term, Terms, Statement, Statements, no_terms, term, no_statements, statement}
 use Rattle.bound_tree.specs.Tree as t
 use Rattle.bound_tree.specs.declared.tree.Expr.{Expr}
@@ -40,6 +40,10 @@ term_of = fold-Expr Term term_layer
 
 abbrev pub terms_of : List Expr → Terms
 terms_of es = terms (map term_of es)
+
+abbrev pub term_if_any : Option Expr → Option Term
+term_if_any None = None
+term_if_any (Some e) = Some (term_of e)
 
 abbrev pub statement_layer : Stmt-F Statement → Statement
 statement_layer (Stmt-F.Block ss) = t.Block (statements ss)

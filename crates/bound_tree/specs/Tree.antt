@@ -1,9 +1,10 @@
 -- A bound tree as plain data.
-use Rattle.std.specs.Prelude.{ℕ, List}
+use Rattle.std.specs.Prelude.{ℕ, List, Option, Some, None}
 use Rattle.core_model.specs.declared.instr.Op.{Op}
 use Rattle.bound_tree.specs.declared.name.ValueType.{ValueType}
 use Rattle.bound_tree.specs.declared.name.FieldName.{FieldName}
 use Rattle.bound_tree.specs.declared.name.MemberName.{MemberName}
+use Rattle.bound_tree.specs.declared.tree.Naming.{Naming}
 use Rattle.bound_tree.specs.declared.tree.Stamp.{Stamp}
 use Rattle.bound_tree.specs.declared.tree.Literal.{Literal}
 use Rattle.bound_tree.specs.declared.tree.UnaryOp.{UnaryOp}
@@ -67,3 +68,14 @@ stamp_of (Unary s o a) = s
 stamp_of (And s a b) = s
 stamp_of (Or s a b) = s
 stamp_of (Binary s o a b) = s
+
+-- the local that an expression names, and where
+abbrev pub local_of : Term → Option Naming
+local_of (Local s x) = Some (record { at = s.at; local = x })
+local_of _ = None
+
+-- what stands before the dot of a field
+abbrev pub base_of : Term → Option Term
+base_of (Field s b f) = Some b
+base_of (UnknownField s b n) = Some b
+base_of _ = None

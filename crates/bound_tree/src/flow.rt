@@ -1,8 +1,10 @@
 ghost use Rattle.std.specs.Prelude.{◌≡◌, OnOk};
 ghost use Rattle.bound_tree.specs.Flows as spec;
 ghost use Rattle.bound_tree.specs.Reading.{term_of, terms_of, statement_of, statements_of};
+ghost use Rattle.bound_tree.specs.Tree.{base_of, local_of};
 ghost use Rattle.bound_tree.specs.Ways.{whole};
 
+use crate::parts::{base_of, local_of};
 use crate::tree::{Expr, Stmt};
 use crate::way::{Way, no_ways, put_again, put_either, put_leaving, put_naming, put_setting};
 use desk_base::{Items, OutOfMemory};
@@ -44,7 +46,7 @@ pub fn put_expr(expr: &Expr, alloc: Global, flow: &mut Items<Way>) -> Result<(),
         Expr::Or(_, left, right) => {
             let mut no = no_ways(alloc);
             put_expr(right.get(), alloc, &mut no)?;
-            put_either(flow, no, no_ways(alloc))?;
+            put_either(flow, no_ways(alloc), no)?;
             put_expr(left.get(), alloc, flow)?;
             Ok(())
         }
@@ -69,74 +71,32 @@ fn put_exprs(list: &[Expr], alloc: Global, flow: &mut Items<Way>) -> Result<(), 
 }
 
 /// Puts what stands before the dot of a target before the flow.
-#[tactic(auto, using(crate::proofs::Readings::readings))]
 fn put_base(target: &Expr, alloc: Global, flow: &mut Items<Way>) -> Result<(), OutOfMemory>
-    ensures { OnOk result (whole flow.new ≡ spec.in_base (term_of target.now) (whole flow.old)) }
+    ensures { OnOk result (whole flow.new ≡ spec.in_any (base_of (term_of target.now)) (whole flow.old)) }
 {
-    match target {
-        Expr::Field(_, base, _) => put_expr(base.get(), alloc, flow),
-        Expr::UnknownField(_, base, _) => put_expr(base.get(), alloc, flow),
-        Expr::Const(_, _)
-        | Expr::This(_)
-        | Expr::Local(_, _)
-        | Expr::Static(_, _)
-        | Expr::New(_, _, _)
-        | Expr::Call(_, _, _, _)
-        | Expr::CallStatic(_, _, _)
-        | Expr::Unknown(_, _, _)
-        | Expr::UnknownCall(_, _, _, _)
-        | Expr::Unary(_, _, _)
-        | Expr::And(_, _, _)
-        | Expr::Or(_, _, _)
-        | Expr::Binary(_, _, _, _) => Ok(()),
+    match base_of(target) {
+        Some(base) => put_expr(base, alloc, flow),
+        None => Ok(()),
     }
 }
 
 /// Puts the naming of a target that is a local before the flow.
-#[tactic(auto, using(crate::proofs::Readings::readings))]
 fn put_target_naming(target: &Expr, flow: &mut Items<Way>) -> Result<(), OutOfMemory>
-    ensures { OnOk result (whole flow.new ≡ spec.target_named (term_of target.now) (whole flow.old)) }
+    ensures { OnOk result (whole flow.new ≡ spec.local_named (local_of (term_of target.now)) (whole flow.old)) }
 {
-    match target {
-        Expr::Local(stamp, local) => put_naming(flow, *local, stamp.at),
-        Expr::Const(_, _)
-        | Expr::This(_)
-        | Expr::Field(_, _, _)
-        | Expr::Static(_, _)
-        | Expr::New(_, _, _)
-        | Expr::Call(_, _, _, _)
-        | Expr::CallStatic(_, _, _)
-        | Expr::Unknown(_, _, _)
-        | Expr::UnknownField(_, _, _)
-        | Expr::UnknownCall(_, _, _, _)
-        | Expr::Unary(_, _, _)
-        | Expr::And(_, _, _)
-        | Expr::Or(_, _, _)
-        | Expr::Binary(_, _, _, _) => Ok(()),
+    match local_of(target) {
+        Some(naming) => put_naming(flow, naming.local, naming.at),
+        None => Ok(()),
     }
 }
 
 /// Puts the setting of a target that is a local before the flow.
-#[tactic(auto, using(crate::proofs::Readings::readings))]
 fn put_target_setting(target: &Expr, flow: &mut Items<Way>) -> Result<(), OutOfMemory>
-    ensures { OnOk result (whole flow.new ≡ spec.target_set (term_of target.now) (whole flow.old)) }
+    ensures { OnOk result (whole flow.new ≡ spec.local_set (local_of (term_of target.now)) (whole flow.old)) }
 {
-    match target {
-        Expr::Local(_, local) => put_setting(flow, *local),
-        Expr::Const(_, _)
-        | Expr::This(_)
-        | Expr::Field(_, _, _)
-        | Expr::Static(_, _)
-        | Expr::New(_, _, _)
-        | Expr::Call(_, _, _, _)
-        | Expr::CallStatic(_, _, _)
-        | Expr::Unknown(_, _, _)
-        | Expr::UnknownField(_, _, _)
-        | Expr::UnknownCall(_, _, _, _)
-        | Expr::Unary(_, _, _)
-        | Expr::And(_, _, _)
-        | Expr::Or(_, _, _)
-        | Expr::Binary(_, _, _, _) => Ok(()),
+    match local_of(target) {
+        Some(naming) => put_setting(flow, naming.local),
+        None => Ok(()),
     }
 }
 

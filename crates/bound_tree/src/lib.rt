@@ -4,18 +4,30 @@
 //! facts that stand in the tree; what makes a tree stands above it.
 #![tactic(auto)]
 
+mod assigned;
 mod claim;
+mod clean_flow;
 mod flow;
 mod laws;
 mod name;
+mod parts;
+mod passes;
+mod place;
+mod places;
 mod tree;
 mod unit;
 mod way;
 
-pub use claim::{Claim, claim_of};
+pub use assigned::assigned_table;
+pub use claim::{Claim, claim_of, local_claim};
+pub use clean_flow::is_clean;
 pub use flow::{put_expr, put_stmt};
 pub use laws::{claims_run_along, passes_tell_runs};
 pub use name::{FieldName, MemberName, ValueType};
-pub use tree::{Expr, Literal, Stamp, Stmt, UnaryOp};
+pub use parts::{base_of, local_of, stamp_of};
+pub use passes::{live, named_later, spent, spent_before};
+pub use place::{Goal, Owner, Phrase, Seen, What};
+pub use places::seen_places;
+pub use tree::{Expr, Literal, Naming, Stamp, Stmt, UnaryOp};
 pub use unit::{Body, BoundTree, Initial, Part, Variable, Word};
 pub use way::{Way, no_ways};

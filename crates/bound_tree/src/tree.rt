@@ -2,14 +2,23 @@ use crate::name::{FieldName, MemberName, ValueType};
 use core_model::Op;
 use desk_base::{Boxed, Bytes, Items, Name};
 
-/// What stands with each expression: the number, within the unit, of the token that its findings
-/// name (the name of an access or a call, the word `new`), the number of its first token, and its
-/// type, or none where it has no value or a bind finding stands in it.
+/// What stands with each expression: the number, within the unit and from 1, of the token that its
+/// findings name (the name of an access or a call, the word `new`), the number of its first token,
+/// its type, or none where it has no value or is faulty, and whether it is faulty: a bind finding
+/// stands at it or in it, or it uses what has an unknown type.
 #[derive(Drop)]
 pub struct Stamp {
     pub at: u32,
     pub first: u32,
     pub ty: Option<ValueType>,
+    pub is_faulty: bool,
+}
+
+/// A local that is named, and the number of the token at which it is.
+#[derive(Clone, Copy)]
+pub struct Naming {
+    pub at: u32,
+    pub local: u32,
 }
 
 /// A literal. An int is at most 2147483648, and that only behind a minus.

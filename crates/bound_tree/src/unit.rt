@@ -50,12 +50,15 @@ pub enum Part {
     Body(Body),
 }
 
-/// The bound tree of a unit: the class whose it is, the number of the `@` of each promise annotation
+/// The bound tree of a unit: the class whose it is; the number of the `@` of each promise annotation
 /// that is written at it, in the order in which they are numbered, whether it stands or is set
-/// aside, and the unit's parts.
+/// aside; for each promise that stands at the unit, in the order of its class's surface, the number
+/// of the `@` of the annotation that gives it, 1 where it was spread; and the unit's parts. Numbers
+/// of tokens are those within the unit, from 1.
 #[derive(Drop)]
 pub struct BoundTree {
     pub class: Name,
     pub annotations: Items<u32>,
+    pub standing: Items<u32>,
     pub part: Part,
 }

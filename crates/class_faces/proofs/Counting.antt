@@ -17,7 +17,7 @@ use Rattle.class_faces.specs.Faces.{face_of, faces_after}
 use Rattle.class_faces.specs.Keys.{Counts, Counted, count_in, times, slot_of, key_with, keys_after}
 
 -- one slot more
-times_more : (slots : List (List ℕ)) (slot q : List ℕ) → times (slots ++ slot ∷ []) q ≡ times slots q + cond (bytes_eq slot q) 1 0
+pub times_more : (slots : List (List ℕ)) (slot q : List ℕ) → times (slots ++ slot ∷ []) q ≡ times slots q + cond (bytes_eq slot q) 1 0
 times_more slots slot q =
     sum_by-append (λ s. cond (bytes_eq s q) 1 0) slots (slot ∷ []) ∙ ap (λ n. times slots q + n) (zero-add (cond (bytes_eq slot q) 1 0))
 

@@ -1,2 +1,3 @@
 pub mod Assigns
 pub mod Counting
+pub mod KeyLaws

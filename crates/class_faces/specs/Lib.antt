@@ -1,3 +1,4 @@
 pub mod Assigned
 pub mod Faces
 pub mod Keys
+pub mod Same

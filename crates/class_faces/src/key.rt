@@ -1,6 +1,6 @@
 ghost use Rattle.std.specs.Prelude.{◌≡◌, ◌++◌, ◌<◌, ℕ, List, [], ◌∷◌, IfOk, OnOk, decimal};
 ghost use Rattle.class_faces.specs.Keys as spec;
-ghost use Rattle.class_faces.specs.Keys.{Counts, IsAsWritten, times};
+ghost use Rattle.class_faces.specs.Keys.{Counts, times};
 
 use desk_base::{Bytes, Items, OutOfMemory, Text};
 use itoa::Buffer;
@@ -15,11 +15,6 @@ pub fn text_of(alloc: Global, name: &[u8]) -> Result<Text, OutOfMemory>
     let text = String::from_utf8_lossy(alloc, name)?;
     Ok(Text::from_string(text))
 }
-
-/// A name of ASCII is its own text.
-pub fn names_stay()
-    ensures { (name : List ℕ) → IsAsWritten name }
-{}
 
 fn put_number(out: &mut Bytes, number: usize) -> Result<(), OutOfMemory>
     ensures { OnOk result (out.new ≡ out.old ++ decimal number) }
@@ -38,6 +33,41 @@ fn counted(alloc: Global, name: &[u8], count: usize) -> Result<Bytes, OutOfMemor
     Ok(key)
 }
 
+// The name in a member's key.
+fn key_name(member: &MemberTree) -> &[u8]
+    ensures { result.now ≡ spec.key_name member.now }
+{
+    match member {
+        MemberTree::Field(field) => field.name.text.as_slice(),
+        MemberTree::Method(method) => method.name.text.as_slice(),
+        MemberTree::Sig(sig) => sig.name.text.as_slice(),
+        MemberTree::Ctor(_) => b"new",
+        MemberTree::Main(_) => b"main",
+    }
+}
+
+// The number of parameters in a member's key.
+fn key_count(member: &MemberTree) -> Option<usize>
+    ensures { result ≡ spec.key_count member.now }
+{
+    match member {
+        MemberTree::Field(_) => None,
+        MemberTree::Method(method) => Some(method.params.len()),
+        MemberTree::Sig(sig) => Some(sig.params.len()),
+        MemberTree::Ctor(ctor) => Some(ctor.params.len()),
+        MemberTree::Main(_) => Some(1),
+    }
+}
+
+fn written_name(alloc: Global, name: &[u8], count: Option<usize>) -> Result<Bytes, OutOfMemory>
+    ensures { IfOk result (λ key. key ≡ spec.written_name name.now count) }
+{
+    match count {
+        None => Bytes::from_slice(alloc, name),
+        Some(count) => counted(alloc, name, count),
+    }
+}
+
 // What members of one name have in common.
 fn slot_of(alloc: Global, member: &MemberTree) -> Result<Bytes, OutOfMemory>
     ensures { IfOk result (λ slot. slot ≡ spec.slot_of member.now) }
@@ -53,16 +83,6 @@ fn slot_of(alloc: Global, member: &MemberTree) -> Result<Bytes, OutOfMemory>
     }
 }
 
-// A member's key without its class.
-fn short_key(alloc: Global, member: &MemberTree) -> Result<Bytes, OutOfMemory>
-    ensures { IfOk result (λ key. key ≡ spec.short_key member.now) }
-{
-    match member {
-        MemberTree::Ctor(ctor) => counted(alloc, b"new", ctor.params.len()),
-        _ => slot_of(alloc, member),
-    }
-}
-
 // What follows the key of the k-th member of one slot.
 fn put_repeat(key: &mut Bytes, k: usize) -> Result<(), OutOfMemory>
     ensures { OnOk result (key.new ≡ key.old ++ spec.repeat_mark k) }
@@ -74,11 +94,20 @@ fn put_repeat(key: &mut Bytes, k: usize) -> Result<(), OutOfMemory>
     put_number(key, k)
 }
 
-// The k-th member's key with its class.
-fn key_with(alloc: Global, class: &[u8], member: &MemberTree, k: usize) -> Result<Text, OutOfMemory>
-    ensures { IfOk result (λ key. key ≡ spec.key_with class.now member.now k) }
+/// The key of a member of the class: `C.f` of the field `f`, which has no `count`, `C.m/2` of the
+/// method `m` with two parameters, `C.new/2` of a constructor, whose name is `new`, and `C.main/1` of
+/// a main. The k-th of one name and number of parameters in its class has `~k` behind it from the
+/// second on, and so has the k-th field of one name and the k-th constructor; the first has `k` 1.
+pub fn member_key(
+    alloc: Global,
+    class: &[u8],
+    name: &[u8],
+    count: Option<usize>,
+    k: usize,
+) -> Result<Text, OutOfMemory>
+    ensures { IfOk result (λ key. key ≡ spec.member_key class.now name.now count k) }
 {
-    let mut short = short_key(alloc, member)?;
+    let mut short = written_name(alloc, name, count)?;
     put_repeat(&mut short, k)?;
     let mut key = Bytes::from_slice(alloc, class)?;
     key.append(b".")?;
@@ -107,7 +136,7 @@ pub(crate) fn next_key(
 {
     let slot = slot_of(alloc, member)?;
     let k = count_slot(counts, slot)?;
-    key_with(alloc, class, member, k)
+    member_key(alloc, class, key_name(member), key_count(member), k)
 }
 
 /// The keys of a class's members, in written order: `C.f` of a field, `C.m/2` of a method with two

@@ -6,7 +6,9 @@ mod assigned;
 mod face;
 mod faces;
 mod key;
+mod laws;
 
 pub use face::{FaceTy, FieldFace, MemberFace, ParamFace};
 pub use faces::{face_ty, field_faces, is_static, member_faces, named_params};
-pub use key::{member_keys, names_stay, text_of};
+pub use key::{member_key, member_keys, text_of};
+pub use laws::{keys_differ, keys_tell_classes, names_stay, same_faces};

@@ -1,7 +1,6 @@
 -- What the verdicts answer of a promise.
-use Rattle.std.proofs.Common.{◌≡◌, ℕ, List, [], length, refl, sym, ◌∙◌, ap, subst, Bor}
+use Rattle.std.proofs.Common.{◌≡◌, ℕ, List, refl, sym, ◌∙◌, ap, subst, Bor}
 use Rattle.std.specs.Prelude.{Contains, Option, Some, None, MatchOption}
-use Rattle.std.specs.List.{slice_get}
 use Rattle.std.specs.Option.{option_copied}
 use Rattle.desk_base.specs.declared.key.PromiseKey.{PromiseKey}
 use Rattle.result_records.specs.declared.finding.Finding.{Finding}
@@ -13,7 +12,7 @@ use Rattle.consistency.specs.declared.verdicts.Judged.{Judged}
 use Rattle.consistency.specs.declared.verdicts.Verdicts.{Verdicts}
 use Rattle.consistency.specs.Blame.{Blame, IsWord, Leaf}
 use Rattle.consistency.specs.Keys.{number_in}
-use Rattle.consistency.specs.Rounds.{Con, Firm, HasVerdict, Holds, Round, Survives}
+use Rattle.consistency.specs.Rounds.{Con, Firm, HasVerdict}
 use Rattle.consistency.specs.Verdicts.{BlamedBy, IsFailing, IsJudged, RestsBy, VerdictsOf, row_at, row_in}
 use Rattle.consistency.proofs.Judging.{get_contains, get_within, place_of}
 use Rattle.consistency.proofs.Laws.{con_of_firm}

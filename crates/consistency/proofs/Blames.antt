@@ -1,11 +1,11 @@
 -- What the tables of steps say of promises: blames and leaves.
-use Rattle.std.proofs.Common.{◌≡◌, ℕ, zero, suc, ◌+◌, ◌-◌, ◌<◌, ◌≤◌, List, [], ◌∷◌, length, get_or, arith, refl, sym, ◌∙◌, ap, subst, ◌⊎◌, inl, inr, Bool, true, false, ltb-true, ltb-false, ◌||◌, ◌&&◌}
+use Rattle.std.proofs.Common.{◌≡◌, ℕ, zero, suc, ◌-◌, ◌<◌, ◌≤◌, List, [], ◌∷◌, length, get_or, arith, refl, sym, ◌∙◌, ap, subst, ◌⊎◌, inl, inr, Bool, true, false, ltb-false, ◌||◌, ◌&&◌}
 use Rattle.std.proofs.lemmas.Bool.Decides.{nat_tests}
-use Rattle.std.specs.Prelude.{Contains, All, Option, Some, None, Vec, find, not, nat_lt}
+use Rattle.std.specs.Prelude.{Contains, All, Option, Some, None, Vec, not, nat_lt}
 use Rattle.std.specs.Global.{Global}
 use Rattle.std.specs.List.{AllZip, slice_get, list_all, list_any}
 use Rattle.std.proofs.lemmas.List.{get_or_default}
-use Rattle.std.proofs.lemmas.List.Elements.{Contains-get_or, All-contains}
+use Rattle.std.proofs.lemmas.List.Elements.{Contains-get_or}
 use Rattle.desk_base.specs.declared.key.PromiseKey.{PromiseKey}
 use Rattle.result_records.specs.declared.finding.Finding.{Finding}
 use Rattle.result_records.specs.declared.finding.FindingKey.{FindingKey}
@@ -19,12 +19,12 @@ use Rattle.consistency.specs.declared.steps.Step.TheVariants.{Own, Via}
 use Rattle.consistency.specs.Blame as rule
 use Rattle.consistency.specs.Blame.{Blame, First, FirstLost, FirstMissing, IsWord, Leaf, LeavesAfter}
 use Rattle.consistency.specs.Graph.{ClauseOf, LinkOf, WayOf}
-use Rattle.consistency.specs.Rounds.{Con, Holds, Round, Survives}
+use Rattle.consistency.specs.Rounds.{Holds, Round, Survives}
 use Rattle.consistency.specs.Steps.{still_in}
-use Rattle.consistency.specs.Tables.{BlameEnds, BlameSteps, CauseTo, Causes, Ends, Falls, LeafSteps, blame_at, blame_by, blame_in, end_by, key_at, key_of, leaf_at, leaf_by, lost_by, lost_of, is_lost, missing, stays, stays_all, step_by, word_at}
+use Rattle.consistency.specs.Tables.{BlameEnds, BlameSteps, CauseTo, Causes, Ends, Falls, blame_at, blame_by, blame_in, end_by, key_at, key_of, lost_by, lost_of, is_lost, missing, stays, stays_all, step_by}
 use Rattle.consistency.specs.Verdicts.{IsFailing, RunOf}
 use Rattle.consistency.proofs.Orders.{some_within}
-use Rattle.consistency.proofs.Judging.{Stands, get_contains, get_within, place_of}
+use Rattle.consistency.proofs.Judging.{Stands, get_contains}
 use Rattle.consistency.proofs.Zips.{Tells, any_false, any_true, first_at, first_found, first_has, none_found, tells_all, zip_left, zip_right}
 
 some_same : {X : Type 0} (x y : X) → Some x ≡ Some y → x ≡ y

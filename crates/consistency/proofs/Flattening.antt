@@ -2,7 +2,6 @@
 use Rattle.std.proofs.Common.{◌≡◌, ℕ, zero, suc, ◌+◌, ◌-◌, ◌<◌, ◌≤◌, ◌^◌, List, [], ◌∷◌, ◌++◌, length, get_or, take, map, arith, refl, sym, ◌∙◌, ap, subst, ◌⊎◌, inl, inr, Bool, true, false, append_assoc}
 use Rattle.std.specs.Prelude.{Contains, Vec, not, ◌&&◌}
 use Rattle.std.specs.Global.{Global}
-use Rattle.std.specs.List.{list_any}
 use Rattle.std.proofs.lemmas.List.{length-append, length-map, get_or_append_left, get_or-append_right, get_or-map, take_more, append-nil, get_or_default}
 use Rattle.std.proofs.Math.Seq.{get_or-append_seam}
 use Rattle.std.proofs.lemmas.List.Elements.{Contains-get_or, Contains-append_left, Contains-append_right, Contains-append_cases}
@@ -12,7 +11,7 @@ use Rattle.consistency.specs.declared.graph.Link.{Link}
 use Rattle.consistency.specs.declared.graph.Link.TheVariants.{Promise, Word}
 use Rattle.consistency.specs.Flat.{Fits, finding_of, alternative_of, barred_of, target_of}
 use Rattle.consistency.specs.Numbers.{Numbered, SameLinks}
-use Rattle.consistency.specs.Flattening.{AddsLinks, AddsWays, AreWays, FlatTo, HasWays, Way, has_word, is_word, targets, ways_of}
+use Rattle.consistency.specs.Flattening.{AddsLinks, AddsWays, FlatTo, HasWays, Way, has_word, targets, ways_of}
 use Rattle.consistency.specs.Wired.{IsWired}
 
 -- ---- the promises to which links lead

@@ -1,7 +1,6 @@
 -- The rounds by number are the rounds over promises and findings.
-use Rattle.std.proofs.Common.{◌≡◌, ℕ, zero, suc, ◌+◌, ◌-◌, ◌<◌, ◌≤◌, List, [], ◌∷◌, length, get_or, arith, refl, sym, ◌∙◌, ap, subst, ◌⊎◌, inl, inr, Bool, true, false}
-use Rattle.std.specs.Prelude.{Contains, All, Option, Some, None, Vec}
-use Rattle.std.specs.Global.{Global}
+use Rattle.std.proofs.Common.{◌≡◌, ℕ, zero, suc, ◌<◌, ◌≤◌, List, [], ◌∷◌, length, get_or, arith, sym, ◌∙◌, ap, subst, Bool, true}
+use Rattle.std.specs.Prelude.{Contains, Option, Some, None}
 use Rattle.std.specs.List.{AllZip, slice_get}
 use Rattle.desk_base.specs.declared.key.PromiseKey.{PromiseKey}
 use Rattle.result_records.specs.declared.finding.Finding.{Finding}
@@ -9,16 +8,15 @@ use Rattle.result_records.specs.declared.finding.FindingLink.{FindingLink}
 use Rattle.result_records.specs.declared.finding.FindingLink.TheVariants as link
 use Rattle.consistency.specs.declared.flat.Flat.{Flat}
 use Rattle.consistency.specs.declared.graph.Clause.{Clause}
-use Rattle.consistency.specs.declared.graph.Graph.{Graph}
 use Rattle.consistency.specs.declared.graph.Link.{Link}
 use Rattle.consistency.specs.declared.graph.Link.TheVariants.{Promise, Word}
-use Rattle.consistency.specs.Flat.{Alive, Left, Fits}
-use Rattle.consistency.specs.Graph.{ClauseOf, GraphOf, LinkOf, WayOf}
+use Rattle.consistency.specs.Flat.{Alive, Left}
+use Rattle.consistency.specs.Graph.{ClauseOf, LinkOf, WayOf}
 use Rattle.consistency.specs.Keys.{Distinct}
 use Rattle.consistency.specs.Numbers.{In, Numbered}
 use Rattle.consistency.specs.Numbers as numbers
-use Rattle.consistency.specs.Rounds.{Holds, IsConsistent, IsGreatest, Round, Survives}
-use Rattle.consistency.specs.Steps.{Consistent, Solved, still_in}
+use Rattle.consistency.specs.Rounds.{Holds, IsConsistent, Round}
+use Rattle.consistency.specs.Steps.{Consistent, Solved}
 use Rattle.consistency.specs.Verdicts.{RunOf}
 use Rattle.consistency.proofs.Numbering.{alive_in, in_alive}
 use Rattle.consistency.proofs.Gone.{told_in, told_out}

@@ -1,6 +1,6 @@
 -- One promise more has its number.
-use Rattle.std.proofs.Common.{◌≡◌, ℕ, ◌+◌, ◌<◌, List, [], length, get_or, refl, sym, ◌∙◌, ap, subst, arith, rules, ◌⊎◌, inl, inr, Bool, true, false, cond}
-use Rattle.std.specs.Prelude.{Option, Some, None}
+use Rattle.std.proofs.Common.{◌≡◌, ℕ, ◌+◌, ◌<◌, List, [], refl, sym, ◌∙◌, ap, subst, arith, rules, ◌⊎◌, inl, inr, Bool, true, false, cond}
+use Rattle.std.specs.Prelude.{Some}
 use Rattle.std.specs.List.{slice_get}
 use Rattle.std.specs.Ordering.{nat_cmp, ordering_then, is_eq}
 use Rattle.std.specs.Cmp.Lexicographic.{slice_cmp}
@@ -15,7 +15,7 @@ use Rattle.desk_base.specs.declared.key.PromiseName.{PromiseName}
 use Rattle.desk_base.specs.contracts.key.PromiseName.{the_type}
 use Rattle.desk_base.specs.contracts.key.PromiseNameOrd.TheImpl as name_ord
 use Rattle.desk_base.specs.contracts.key.PromiseNameOrd.TheImpl.Laws as name_laws
-use Rattle.consistency.specs.Keys.{Distinct, IndexesTo, key_cmp, number_in}
+use Rattle.consistency.specs.Keys.{IndexesTo, key_cmp, number_in}
 
 -- ---- keys that tie are one key
 

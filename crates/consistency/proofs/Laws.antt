@@ -1,5 +1,5 @@
 -- What is firm is consistent.
-use Rattle.std.proofs.Common.{◌≡◌, ℕ, zero, suc, List, length, get_or, Bool, true, false}
+use Rattle.std.proofs.Common.{ℕ, zero, suc, List, length, get_or, true, false}
 use Rattle.desk_base.specs.declared.key.PromiseKey.{PromiseKey}
 use Rattle.result_records.specs.declared.finding.Finding.{Finding}
 use Rattle.result_records.specs.declared.finding.FindingLink.{FindingLink}

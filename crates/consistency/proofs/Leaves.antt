@@ -2,7 +2,7 @@
 use Rattle.std.proofs.Common.{◌≡◌, ℕ, zero, suc, ◌+◌, ◌-◌, ◌<◌, ◌≤◌, List, [], ◌∷◌, ◌++◌, length, get_or, arith, refl, sym, ◌∙◌, ap, subst, ◌⊎◌, inl, inr, Bool, true, false}
 use Rattle.std.specs.Prelude.{Contains, All, Option, Some, None, Vec, find, not, nat_lt}
 use Rattle.std.specs.Global.{Global}
-use Rattle.std.specs.List.{AllZip, slice_get, list_any}
+use Rattle.std.specs.List.{slice_get}
 use Rattle.std.proofs.lemmas.List.Elements.{All-contains}
 use Rattle.std.proofs.lemmas.Bool.Decides.{nat_tests}
 use Rattle.desk_base.specs.declared.key.PromiseKey.{PromiseKey}
@@ -23,14 +23,14 @@ use Rattle.consistency.specs.Blame as rule
 use Rattle.consistency.specs.Blame.{First, FirstLost, FirstMissing, IsWord, Leaf}
 use Rattle.consistency.specs.Graph.{ClauseOf, GraphOf, LinkOf, WayOf}
 use Rattle.consistency.specs.Keys.{Indexes}
-use Rattle.consistency.specs.Rounds.{Con, Firm, Holds, Round, Survives}
+use Rattle.consistency.specs.Rounds.{Con, Holds, Round, Survives}
 use Rattle.consistency.specs.Steps.{still_in}
-use Rattle.consistency.specs.Tables.{BlameEnds, Causes, Ends, Falls, LeafEnds, LeafSteps, RowsTo, end_by, key_at, leaf_at, leaf_by, leaf_in, missing, row_of, stays, stays_all, step_by, word_at}
+use Rattle.consistency.specs.Tables.{BlameEnds, Causes, Ends, Falls, LeafEnds, LeafSteps, RowsTo, end_by, leaf_at, leaf_by, leaf_in, missing, row_of, stays, stays_all, step_by, word_at}
 use Rattle.consistency.specs.Verdicts.{BlamedBy, IsJudged, RestsBy, RunOf, Runs, VerdictsOf}
 use Rattle.consistency.proofs.Orders.{some_within}
 use Rattle.consistency.proofs.Judging.{Stands, get_within}
 use Rattle.consistency.proofs.Standing.{get_last, get_left}
-use Rattle.consistency.proofs.Blames.{Blamed, LostAt, blamed_of, down, leaves_of, left_by, lost_at, missing_none, tells_missing, tells_way, via_same}
+use Rattle.consistency.proofs.Blames.{blamed_of, down, leaves_of, left_by, lost_at, missing_none, tells_missing, tells_way, via_same}
 use Rattle.consistency.proofs.Zips.{any_false, first_found, first_has, none_found}
 
 -- one step from a promise that left after round k where words don't count

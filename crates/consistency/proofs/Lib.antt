@@ -20,3 +20,4 @@ pub mod Searching
 pub mod Standing
 pub mod Laws
 pub mod Answering
+pub mod Known

@@ -1,7 +1,7 @@
 -- The promises that left, in the order of their rounds.
-use Rattle.std.proofs.Common.{◌≡◌, ℕ, suc, ◌+◌, ◌-◌, ◌<◌, ◌≤◌, List, [], ◌∷◌, ◌++◌, length, get_or, take, arith, refl, sym, ◌∙◌, subst, ◌⊎◌, inl, inr, replicate}
+use Rattle.std.proofs.Common.{◌≡◌, ℕ, ◌+◌, ◌<◌, ◌≤◌, List, ◌++◌, length, get_or, take, arith, refl, sym, ◌∙◌, subst, ◌⊎◌, inl, inr, replicate}
 use Rattle.std.specs.Prelude.{Option, Some, None, Contains}
-use Rattle.std.proofs.lemmas.List.{get_or-replicate, length-replicate, take-append-le, length-append, get_or_append_left, get_or-append_right, get_or_past, length-take, get_or-take}
+use Rattle.std.proofs.lemmas.List.{get_or-replicate, length-replicate, take-append-le, length-append, get_or_append_left, get_or_past, length-take, get_or-take}
 use Rattle.std.proofs.lemmas.List.Elements.{Contains-append_left, Contains-append_right, Contains-append_cases, Contains-get_or}
 use Rattle.consistency.specs.Steps.{Grows, InOrder, LeftBy, Leave}
 

@@ -1,7 +1,7 @@
 -- Two lists whose elements are related one by one, and the first element with a fact.
 use Rattle.std.proofs.Common.{◌≡◌, ℕ, zero, suc, ◌+◌, ◌<◌, List, [], ◌∷◌, ◌++◌, length, get_or, take, arith, refl, sym, ◌∙◌, ap, subst, ◌⊎◌, inl, inr, Bool, true, false, cond, ◌&&◌, ◌||◌}
-use Rattle.std.specs.Prelude.{Contains, All, not, Option, Some, None, find}
-use Rattle.std.specs.List.{AllZip, list_all, list_any, slice_get}
+use Rattle.std.specs.Prelude.{Contains, All, Option, Some, None, find}
+use Rattle.std.specs.List.{AllZip, list_all, list_any}
 use Rattle.std.proofs.lemmas.List.{take_more}
 use Rattle.std.proofs.lemmas.List.Elements.{All-nil, All-cons, All-head, All-tail}
 use Rattle.consistency.specs.Blame.{First}

@@ -1,5 +1,5 @@
 -- What the numbers of a graph stand for: it is the graph of promises and findings.
-use Rattle.std.specs.Prelude.{◌≡◌, ℕ, List, Option, Some, Vec}
+use Rattle.std.specs.Prelude.{◌≡◌, ℕ, List, Some, Vec}
 use Rattle.std.specs.List.{slice_get, AllZip}
 use Rattle.std.specs.Global.{Global}
 use Rattle.desk_base.specs.declared.key.PromiseKey.{PromiseKey}

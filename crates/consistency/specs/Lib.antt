@@ -1,8 +1,10 @@
+pub mod Among
 pub mod Blame
 pub mod Flat
 pub mod Flattening
 pub mod Graph
 pub mod Keys
+pub mod Numbering
 pub mod Numbers
 pub mod Rounds
 pub mod Steps

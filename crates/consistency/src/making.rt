@@ -1,6 +1,8 @@
-ghost use Rattle.std.specs.Prelude.{◌≡◌, IfOk, OnOk};
+ghost use Rattle.std.specs.Prelude.{◌≡◌, All, Contains, IfOk, OnOk};
 ghost use Rattle.std.specs.List.{AllZip, slice_get};
-ghost use Rattle.consistency.specs.Keys.{Distinct, Indexes};
+ghost use Rattle.consistency.specs.Among.{FindingAmong, FindingsAmong, LinkAmong, WayAmong};
+ghost use Rattle.consistency.specs.Keys.{Distinct};
+ghost use Rattle.consistency.specs.Numbering.{IsNumbering};
 ghost use Rattle.consistency.specs.Graph.{ClauseOf, Extends, GraphOf, LinkOf, WayOf};
 
 use crate::graph::{Clause, Graph, Link};
@@ -9,19 +11,15 @@ use desk_base::{OutOfMemory, PromiseKey};
 use result_records::{Alternative, Finding, FindingLink};
 use std::alloc::Global;
 
-/// The number of a promise. A key that isn't among the promises, which callers rule out, is taken
-/// as want of memory.
-fn known_number(
-    keys: &[PromiseKey],
-    numbers: &Numbers,
-    key: &PromiseKey,
-) -> Result<u32, OutOfMemory>
-    requires { Indexes keys.now numbers.now }
-    ensures { IfOk result (λ n. slice_get keys.now n ≡ Some key.now) }
+/// The number of one of the promises.
+fn known_number(keys: &[PromiseKey], numbers: &Numbers, key: &PromiseKey) -> u32
+    requires numbers { IsNumbering keys.now numbers.now }
+    requires among { Contains keys.now key.now }
+    ensures { slice_get keys.now result ≡ Some key.now }
 {
     match number_of(numbers, key) {
-        Some(number) => Ok(number),
-        None => Err(OutOfMemory),
+        Some(number) => number,
+        None => unreachable!(),
     }
 }
 
@@ -31,12 +29,13 @@ fn link_of(
     words: &mut Vec<FindingLink>,
     link: &FindingLink,
 ) -> Result<Link, OutOfMemory>
-    requires { Indexes keys.now numbers.now }
+    requires numbers { IsNumbering keys.now numbers.now }
+    requires among { LinkAmong keys.now link.now }
     ensures link { IfOk result (λ l. LinkOf keys.now words.new.items l link.now) }
     ensures words { OnOk result (Extends words.old.items words.new.items) }
 {
     if let FindingLink::Promise(key) = link {
-        return Ok(Link::Promise(known_number(keys, numbers, key)?));
+        return Ok(Link::Promise(known_number(keys, numbers, key)));
     }
     let number = short(words.len())?;
     words.push(link.clone()?)?;
@@ -50,7 +49,8 @@ fn links_of(
     words: &mut Vec<FindingLink>,
     links: &[FindingLink],
 ) -> Result<Vec<Link>, OutOfMemory>
-    requires { Indexes keys.now numbers.now }
+    requires numbers { IsNumbering keys.now numbers.now }
+    requires among { WayAmong keys.now links.now }
     ensures links { IfOk result (λ v. WayOf keys.now words.new.items v links.now) }
     ensures words { OnOk result (Extends words.old.items words.new.items) }
 {
@@ -68,7 +68,8 @@ fn ways_of(
     words: &mut Vec<FindingLink>,
     ways: &[Alternative],
 ) -> Result<Vec<Vec<Link>>, OutOfMemory>
-    requires { Indexes keys.now numbers.now }
+    requires numbers { IsNumbering keys.now numbers.now }
+    requires among { All (WayAmong keys.now) ways.now }
     ensures ways { IfOk result (λ v. AllZip (WayOf keys.now words.new.items) v.items ways.now) }
     ensures words { OnOk result (Extends words.old.items words.new.items) }
 {
@@ -86,11 +87,12 @@ fn clause_of(
     words: &mut Vec<FindingLink>,
     finding: &Finding,
 ) -> Result<Clause, OutOfMemory>
-    requires { Indexes keys.now numbers.now }
+    requires numbers { IsNumbering keys.now numbers.now }
+    requires among { FindingAmong keys.now finding.now }
     ensures clause { IfOk result (λ c. ClauseOf keys.now words.new.items c finding.now) }
     ensures words { OnOk result (Extends words.old.items words.new.items) }
 {
-    let on = known_number(keys, numbers, &finding.key.on)?;
+    let on = known_number(keys, numbers, &finding.key.on);
     let alternatives = ways_of(alloc, keys, numbers, words, finding.alternatives.as_slice())?;
     Ok(Clause {
         key: finding.key.clone()?,
@@ -106,7 +108,8 @@ fn clauses_of(
     words: &mut Vec<FindingLink>,
     findings: &[Finding],
 ) -> Result<Vec<Clause>, OutOfMemory>
-    requires { Indexes keys.now numbers.now }
+    requires numbers { IsNumbering keys.now numbers.now }
+    requires among { FindingsAmong keys.now findings.now }
     ensures { IfOk result (λ v. AllZip (ClauseOf keys.now words.new.items) v.items findings.now) }
 {
     let mut made = Vec::new(alloc);
@@ -127,13 +130,14 @@ fn copies(alloc: Global, keys: &[PromiseKey]) -> Result<Vec<PromiseKey>, OutOfMe
 }
 
 /// The graph of a project: its promises, each once, and its findings in the order in which they are
-/// to be taken. The promises of the findings, and those that they link to, are among the promises.
+/// to be taken. The promise of each finding, and the promises that it links to, are among them.
 pub fn graph_of(
     alloc: Global,
     promises: &[PromiseKey],
     findings: &[Finding],
 ) -> Result<Graph, OutOfMemory>
-    requires { Distinct promises.now }
+    requires distinct { Distinct promises.now }
+    requires among { FindingsAmong promises.now findings.now }
     ensures { IfOk result (λ graph. GraphOf promises.now findings.now graph) }
 {
     let numbers = numbers_of(alloc, promises)?;

@@ -1,4 +1,8 @@
-use crate::case::{Case, findings_of, keys_of};
+ghost use Rattle.std.specs.Prelude.{IsTrue, length};
+ghost use Rattle.consistency.specs.Keys.{Distinct};
+ghost use Rattle.consistency_cases.specs.Cases.{cases_in};
+
+use crate::case::{Case, are_cases_in, findings_of, keys_of};
 use crate::random::Random;
 use crate::slow::{blame_of, is_left, leaf_of, rounds_of};
 use anyhow::Error;
@@ -7,16 +11,29 @@ use desk_base::{OutOfMemory, PromiseKey};
 use result_records::{FindingKey, FindingLink, VouchKey};
 use std::alloc::Global;
 
+fn solved(alloc: Global, keys: &[PromiseKey], cases: &[Case]) -> Result<Verdicts, OutOfMemory>
+    requires distinct { Distinct keys.now }
+    requires among { IsTrue (cases_in (length keys.now) cases.now) }
+{
+    let findings = findings_of(alloc, keys, cases)?;
+    let graph = graph_of(alloc, keys, &findings)?;
+    let verdicts = solve(alloc, &graph)?;
+    Ok(verdicts)
+}
+
+/// The keys of so many promises and the verdicts on them; None where a finding is on a promise that
+/// isn't there, or links to one.
 fn verdicts_of(
     alloc: Global,
     promises: usize,
     cases: &[Case],
-) -> Result<(Vec<PromiseKey>, Verdicts), OutOfMemory> {
+) -> Result<Option<(Vec<PromiseKey>, Verdicts)>, OutOfMemory> {
     let keys = keys_of(alloc, promises)?;
-    let findings = findings_of(alloc, cases)?;
-    let graph = graph_of(alloc, &keys, &findings)?;
-    let verdicts = solve(alloc, &graph)?;
-    Ok((keys, verdicts))
+    if !are_cases_in(keys.len(), cases) {
+        return Ok(None);
+    }
+    let verdicts = solved(alloc, &keys, cases)?;
+    Ok(Some((keys, verdicts)))
 }
 
 fn blame_text(blame: Option<&FindingKey>) -> u32 {
@@ -61,7 +78,10 @@ pub fn print_verdicts(
     promises: usize,
     cases: &[Case],
 ) -> Result<(), Error> {
-    let (keys, verdicts) = verdicts_of(alloc, promises, cases)?;
+    let Some((keys, verdicts)) = verdicts_of(alloc, promises, cases)? else {
+        println!(rt; "no such promise")?;
+        return Ok(());
+    };
     let mut promise = 0usize;
     for key in &keys {
         print_one(rt, &verdicts, promise, key)?;
@@ -108,7 +128,9 @@ fn agrees(
 fn compare_one(alloc: Global, random: &mut Random) -> Result<bool, OutOfMemory> {
     let promises = random.below(12).saturating_add(1);
     let cases = random.cases(alloc, promises)?;
-    let (keys, verdicts) = verdicts_of(alloc, promises, &cases)?;
+    let Some((keys, verdicts)) = verdicts_of(alloc, promises, &cases)? else {
+        return Ok(false);
+    };
     let con = rounds_of(alloc, promises, &cases, true)?;
     let firm = rounds_of(alloc, promises, &cases, false)?;
     let mut promise = 0usize;
@@ -138,7 +160,10 @@ pub fn compare(rt: &impl Print, alloc: Global, seed: usize, graphs: usize) -> Re
 
 /// Prints how many promises are inconsistent.
 pub fn count(rt: &impl Print, alloc: Global, promises: usize, cases: &[Case]) -> Result<(), Error> {
-    let (keys, verdicts) = verdicts_of(alloc, promises, cases)?;
+    let Some((keys, verdicts)) = verdicts_of(alloc, promises, cases)? else {
+        println!(rt; "no such promise")?;
+        return Ok(());
+    };
     let out = keys
         .iter()
         .filter(|key| verdicts.verdict(key) == Some(Verdict::Inconsistent))

@@ -345,17 +345,17 @@ bare-unwind : (f : Frame) (o : Option (ℕ × Code)) → bare_after (ending_step
 bare-unwind f None = bare-dropped f.objects f.below
 bare-unwind f (Some (r, k)) = refl
 
-bare-move : (p : Program) (t : ℕ) (f : Frame) (m : Mode) → bare_after (call_step p t f m) ≡ call_step (bare_program p) t (bare_frame f) m
-bare-move p t f mode.Running = bare-next p t f f.call.rest
-bare-move p t f (mode.Leaving v) =
+bare-call_step : (p : Program) (t : ℕ) (f : Frame) (m : Mode) → bare_after (call_step p t f m) ≡ call_step (bare_program p) t (bare_frame f) m
+bare-call_step p t f mode.Running = bare-next p t f f.call.rest
+bare-call_step p t f (mode.Leaving v) =
     bare-leave f v (next_exit f.call.rest) ∙ ap (leaving_step (bare_frame f) v) (sym (bare-next_exit f.call.rest))
-bare-move p t f mode.Ending = bare-unwind f (next_exit f.call.rest) ∙ ap (ending_step (bare_frame f)) (sym (bare-next_exit f.call.rest))
-bare-move p t f mode.Over = refl
+bare-call_step p t f mode.Ending = bare-unwind f (next_exit f.call.rest) ∙ ap (ending_step (bare_frame f)) (sym (bare-next_exit f.call.rest))
+bare-call_step p t f mode.Over = refl
 
-bare-moved : (p : Program) (t : ℕ) (os : List Obj) (h : Thread) (cs : List Call)
+bare-thread_step : (p : Program) (t : ℕ) (os : List Obj) (h : Thread) (cs : List Call)
     → bare_after (thread_step p t os h cs) ≡ thread_step (bare_program p) t os (bare_thread h) (map bare_call cs)
-bare-moved p t os h [] = refl
-bare-moved p t os h (c ∷ cs) = bare-move p t (record { objects = os; call = c; below = cs }) h.mode
+bare-thread_step p t os h [] = refl
+bare-thread_step p t os h (c ∷ cs) = bare-call_step p t (record { objects = os; call = c; below = cs }) h.mode
 
 -- ---- configurations
 
@@ -371,7 +371,7 @@ bare-step_of : (p : Program) (c : Config) (t : ℕ) (o : Option Thread)
     → bare_config (step_of p c t o) ≡ step_of (bare_program p) (bare_config c) t (option_map bare_thread o)
 bare-step_of p c t None = refl
 bare-step_of p c t (Some h) =
-    bare-put_back c t (thread_step p t c.objects h h.calls) ∙ ap (with_step (bare_config c) t) (bare-moved p t c.objects h h.calls)
+    bare-put_back c t (thread_step p t c.objects h h.calls) ∙ ap (with_step (bare_config c) t) (bare-thread_step p t c.objects h h.calls)
 
 bare-step : (p : Program) (c : Config) (t : ℕ) → bare_config (step p c t) ≡ step (bare_program p) (bare_config c) t
 bare-step p c t =

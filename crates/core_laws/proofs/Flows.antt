@@ -7,7 +7,7 @@ use Rattle.core_model.specs.declared.program.ClassInfo.{ClassInfo}
 use Rattle.core_model.specs.declared.config.Config.{Config}
 use Rattle.core_model.specs.declared.object.Obj.{Obj}
 use Rattle.core_model.specs.declared.value.Value.{Value}
-use Rattle.core_laws.proofs.Stepping.{IsStepwise, moved}
+use Rattle.core_laws.proofs.Stepping.{IsStepwise, step-allowed}
 
 -- what a property of objects is kept by; a class that objects are made of is one of the program's
 pub record IsKept (p : Program) (G : List Obj → Type 0) : Type 0 where
@@ -57,7 +57,7 @@ module _ (p : Program) (G : List Obj → Type 0) (kept : IsKept p G) where
 
   pub there-step : (c : Config) (t : ℕ) → G c.objects → G (step p c t).objects
   there-step c t g =
-      moved p (λ os s m cs. Unit {0}) (λ os s m cs. Unit {0}) (λ s os ns. G os → G ns) stepwise c t (λ s. tt) (λ s. tt) g
+      step-allowed p (λ os s m cs. Unit {0}) (λ os s m cs. Unit {0}) (λ s os ns. G os → G ns) stepwise c t (λ s. tt) (λ s. tt) g
 
   pub there-run : (c : Config) (schedule : List ℕ) → G c.objects → G (run p c schedule).objects
   there-run c [] g = g

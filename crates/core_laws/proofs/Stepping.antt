@@ -176,16 +176,17 @@ module _ (p : Program) (K G : List Obj → ℕ → Mode → List Call → Type 0
 
     -- what the step leaves
     pub record Kept (a : After) : Type 0 where
-      pub moved : R t os a.objects
+      pub allowed : R t os a.objects
       pub own : Then a.objects t a.mode a.calls
       pub started : IfStarted a.objects a.started
 
     -- the objects stay
     stay : (c : Call) (cs : List Call) (m : Mode) → Then os t m (c ∷ cs) → Kept (record { objects = os; calls = c ∷ cs; mode = m; started = None })
-    stay c cs m g = record { moved = law.same t os; own = g; started = tt }
+    stay c cs m g = record { allowed = law.same t os; own = g; started = tt }
 
-    move : (ns : List Obj) (m : Mode) (cs : List Call) → Makes os ns t m cs → Kept (record { objects = ns; calls = cs; mode = m; started = None })
-    move ns m cs g = record { moved = g.0; own = g.1; started = tt }
+    -- the objects change
+    change : (ns : List Obj) (m : Mode) (cs : List Call) → Makes os ns t m cs → Kept (record { objects = ns; calls = cs; mode = m; started = None })
+    change ns m cs g = record { allowed = g.0; own = g.1; started = tt }
 
     choose : (P : After → Type 0) (b : Bool) (x y : After) → (b ≡ true → P x) → (b ≡ false → P y) → P (if b then x else y)
     choose P true x y h l = h refl
@@ -215,7 +216,7 @@ module _ (p : Program) (K G : List Obj → ℕ → Mode → List Call → Type 0
         → Kept (write (with_temps (frame c (past l) cs) ts) r i v)
     kept-write c l cs ts r i v g may h =
         choose Kept (is_some (field_at os r i)) (goes_on (with_objects (with_temps (frame c (past l) cs) ts) (changed os r (λ o. with_field o i v)))) (ends (frame c (past l) cs))
-        (λ y. move _ mode.Running _ (h y)) (λ y. fault c l cs g may)
+        (λ y. change _ mode.Running _ (h y)) (λ y. fault c l cs g may)
 
     kept-put : (c : Call) (n : Note) (i : ℕ) (k : Code) (cs : List Call) (ts : List Value) → c.temps ≡ ts → Runs os t c (Do n (plain.PutField i) k) cs
         → Kept (put_from (frame c k cs) i ts)
@@ -241,13 +242,13 @@ module _ (p : Program) (K G : List Obj → ℕ → Mode → List Call → Type 0
         → unit_number p d NEW a ≡ Some u → slice_get p.units u ≡ o
         → Kept (begins (with_objects (with_temps (frame c k cs) (drop a c.temps)) (made os d info.fields))
         (call_for u o (value.Ref (length os) ∷ reverse (take a c.temps)) (Object (length os))))
-    kept-construct c n d a k info cs u None g l e w x = move _ mode.Ending _ (law.makes_lost os t c n d a k info u cs g e w x)
-    kept-construct c n d a k info cs u (Some code) g l e w x = move _ mode.Running _ (law.constructs os t c n d a k info u code cs g l e w x)
+    kept-construct c n d a k info cs u None g l e w x = change _ mode.Ending _ (law.makes_lost os t c n d a k info u cs g e w x)
+    kept-construct c n d a k info cs u (Some code) g l e w x = change _ mode.Running _ (law.constructs os t c n d a k info u code cs g l e w x)
 
     kept-made : (c : Call) (n : Note) (d a : ℕ) (k : Code) (info : ClassInfo) (cs : List Call) (o : Option ℕ) → unit_number p d NEW a ≡ o
         → Runs os t c (Do n (plain.Make d a) k) cs → nat_le a (length c.temps) ≡ true → slice_get p.classes d ≡ Some info
         → Kept (construct p (with_objects (with_temps (frame c k cs) (drop a c.temps)) (made os d info.fields)) (length os) (reverse (take a c.temps)) o)
-    kept-made c n d a k info cs None w g l e = move _ mode.Running _ (law.makes os t c n d a k info cs g l e w)
+    kept-made c n d a k info cs None w g l e = change _ mode.Running _ (law.makes os t c n d a k info cs g l e w)
     kept-made c n d a k info cs (Some u) w g l e = kept-construct c n d a k info cs u (slice_get p.units u) g l e w refl
 
     kept-make_of : (c : Call) (n : Note) (d a : ℕ) (k : Code) (cs : List Call) (o : Option ClassInfo) → slice_get p.classes d ≡ o
@@ -315,7 +316,7 @@ module _ (p : Program) (K G : List Obj → ℕ → Mode → List Call → Type 0
         → Kept (start_with (with_temps (frame c k cs) ts) (call_for u o (value.Ref r ∷ []) Own))
     kept-starts c n k cs r d u ts None x g e w y = fault c (Do n plain.Start k) cs g tt
     kept-starts c n k cs r d u ts (Some code) x g e w y =
-        let h = law.starts os t c n k r d u code ts cs g e w y x in record { moved = law.same t os; own = h.0; started = h.1 }
+        let h = law.starts os t c n k r d u code ts cs g e w y x in record { allowed = law.same t os; own = h.0; started = h.1 }
 
     kept-start_of : (c : Call) (n : Note) (k : Code) (cs : List Call) (r d : ℕ) (ts : List Value) (o : Option ℕ) → unit_number p d RUN 0 ≡ o
         → Runs os t c (Do n plain.Start k) cs → c.temps ≡ value.Ref r ∷ ts → class_of (slice_get os r) ≡ Some d
@@ -347,7 +348,7 @@ module _ (p : Program) (K G : List Obj → ℕ → Mode → List Call → Type 0
     kept-do c n (plain.PutField i) k cs g = kept-put c n i k cs c.temps refl g
     kept-do c n (plain.PutStatic d i) k cs g = kept-put_static c n d i k cs c.temps refl g
     kept-do c n (plain.Make d a) k cs g = kept-make c n d a k cs g
-    kept-do c n plain.MakePlain k cs g = move _ mode.Running _ (law.makes_plain os t c n k cs g)
+    kept-do c n plain.MakePlain k cs g = change _ mode.Running _ (law.makes_plain os t c n k cs g)
     kept-do c n (plain.Call m a) k cs g = kept-call c n m a k cs g
     kept-do c n (plain.CallStatic d m a) k cs g = kept-call_static c n d m a k cs g
     kept-do c n plain.Start k cs g = kept-start c n k cs c.temps refl g
@@ -373,7 +374,7 @@ module _ (p : Program) (K G : List Obj → ℕ → Mode → List Call → Type 0
         → Makes os (changed os r (entered t)) t mode.Running (record c { rest = b ⧺ Exit n r (past l); temps = ts } ∷ cs))
         → Kept (take_monitor t (with_temps (frame c (past l) cs) ts) n b r o)
     kept-take c l n b r ts cs None e free g may h = fault c l cs g may
-    kept-take c l n b r ts cs (Some o) e free g may h = move _ mode.Running _ (h o e free)
+    kept-take c l n b r ts cs (Some o) e free g may h = change _ mode.Running _ (h o e free)
 
     kept-enter : (c : Call) (n : Note) (b k : Code) (cs : List Call) (ts : List Value) → c.temps ≡ ts → Runs os t c (Enter n b k) cs
         → Kept (enter_from t (frame c k cs) n b ts)
@@ -398,7 +399,7 @@ module _ (p : Program) (K G : List Obj → ℕ → Mode → List Call → Type 0
     -- ---- a step, by the mode
 
     kept-done : (c : Call) (cs : List Call) → Runs os t c Done cs → Kept (resumed os (given c.gives None) cs)
-    kept-done c [] g = record { moved = law.same t os; own = law.done_last os t c g; started = tt }
+    kept-done c [] g = record { allowed = law.same t os; own = law.done_last os t c g; started = tt }
     kept-done c (d ∷ cs) g = stay _ cs mode.Running (law.done os t c d cs g)
 
     kept-running : (c : Call) (k : Code) (cs : List Call) → Runs os t c k cs → Kept (running_step p t (record { objects = os; call = c; below = cs }) k)
@@ -408,19 +409,19 @@ module _ (p : Program) (K G : List Obj → ℕ → Mode → List Call → Type 0
     kept-running c (While n x b k) cs g = stay _ cs mode.Running (law.turns os t c n x b k cs g)
     kept-running c (Enter n b k) cs g = kept-enter c n b k cs c.temps refl g
     kept-running c (EnterClass n d b k) cs g = kept-enter_class c n d b k cs g
-    kept-running c (Exit n r k) cs g = move _ mode.Running _ (law.exits os t c n r k cs g)
+    kept-running c (Exit n r k) cs g = change _ mode.Running _ (law.exits os t c n r k cs g)
 
     kept-leaving : (v : Option Value) (c : Call) (cs : List Call) (o : Option (ℕ × Code)) → next_exit c.rest ≡ o → Found os t (mode.Leaving v) (c ∷ cs)
         → Kept (leaving_step (record { objects = os; call = c; below = cs }) v o)
-    kept-leaving v c [] None e g = record { moved = law.same t os; own = law.leaves_last os t v c g e; started = tt }
+    kept-leaving v c [] None e g = record { allowed = law.same t os; own = law.leaves_last os t v c g e; started = tt }
     kept-leaving v c (d ∷ cs) None e g = stay _ cs mode.Running (law.leaves os t v c d cs g e)
-    kept-leaving v c cs (Some (r, k)) e g = move _ (mode.Leaving v) _ (law.gives_up os t v c r k cs g e)
+    kept-leaving v c cs (Some (r, k)) e g = change _ (mode.Leaving v) _ (law.gives_up os t v c r k cs g e)
 
     kept-ending : (c : Call) (cs : List Call) (o : Option (ℕ × Code)) → next_exit c.rest ≡ o → Found os t mode.Ending (c ∷ cs)
         → Kept (ending_step (record { objects = os; call = c; below = cs }) o)
-    kept-ending c [] None e g = record { moved = law.same t os; own = law.drops_last os t c g e; started = tt }
+    kept-ending c [] None e g = record { allowed = law.same t os; own = law.drops_last os t c g e; started = tt }
     kept-ending c (d ∷ cs) None e g = stay _ cs mode.Ending (law.drops os t c d cs g e)
-    kept-ending c cs (Some (r, k)) e g = move _ mode.Ending _ (law.unwinds os t c r k cs g e)
+    kept-ending c cs (Some (r, k)) e g = change _ mode.Ending _ (law.unwinds os t c r k cs g e)
 
     kept-call_step : (m : Mode) (c : Call) (cs : List Call) → Found os t m (c ∷ cs) → Kept (call_step p t (record { objects = os; call = c; below = cs }) m)
     kept-call_step mode.Running c cs g = kept-running c c.rest cs g
@@ -429,7 +430,7 @@ module _ (p : Program) (K G : List Obj → ℕ → Mode → List Call → Type 0
     kept-call_step mode.Over c cs g = stay c cs mode.Over (λ x. g.1)
 
     pub kept-thread : (h : Thread) (cs : List Call) → Found os t h.mode cs → Kept (thread_step p t os h cs)
-    kept-thread h [] g = record { moved = law.same t os; own = λ x. g.1; started = tt }
+    kept-thread h [] g = record { allowed = law.same t os; own = λ x. g.1; started = tt }
     kept-thread h (c ∷ cs) g = kept-call_step h.mode c cs g
 
   module _ (law : IsStepwise) where
@@ -486,23 +487,23 @@ module _ (p : Program) (K G : List Obj → ℕ → Mode → List Call → Type 0
         front ts (option_to_list a.started) s new (ap (slice_get ts) (sym y.1) ∙ get-set c.threads t now new e) in
         subst (λ (o : Option Thread). As a.objects s o) (sym here) (subst (λ (i : ℕ). Then a.objects i a.mode a.calls) y.1 k.own))
         (λ no. let there : slice_get ts s ≡ slice_get c.threads s = get-other c.threads t s new no.1 in
-        other t c.objects a.objects a.started s (slice_get ts s) (slice_get (ts ++ option_to_list a.started) s) no.1 k.moved k.started
+        other t c.objects a.objects a.started s (slice_get ts s) (slice_get (ts ++ option_to_list a.started) s) no.1 k.allowed k.started
         (old-or-new ts a.started s) (subst (λ (o : Option Thread). G c.objects s (or_over o).mode (or_over o).calls) (sym there) (w s)))
         (eqb_tells t s)
 
     pub stepped : (c : Config) (t : ℕ) → AllKnown c → AllKnown (step p c t) → Everywhere c → Everywhere (step p c t)
     stepped c t known later w s = stepped-of c t (slice_get c.threads t) refl known w s (later s)
 
-    moved-of : (c : Config) (t : ℕ) (o : Option Thread) → slice_get c.threads t ≡ o → AllKnown c → Everywhere c → R t c.objects (step_of p c t o).objects
-    moved-of c t None e known w = law.same t c.objects
-    moved-of c t (Some now) e known w =
+    step_of-allowed : (c : Config) (t : ℕ) (o : Option Thread) → slice_get c.threads t ≡ o → AllKnown c → Everywhere c → R t c.objects (step_of p c t o).objects
+    step_of-allowed c t None e known w = law.same t c.objects
+    step_of-allowed c t (Some now) e known w =
         let before : Found c.objects t now.mode now.calls =
         (subst (λ (o : Option Thread). K c.objects t (or_over o).mode (or_over o).calls) e (known t), found c t now e w) in
-        (kept-thread law t c.objects now now.calls before).moved
+        (kept-thread law t c.objects now now.calls before).allowed
 
-    -- what a step does to the objects
-    pub moved : (c : Config) (t : ℕ) → AllKnown c → Everywhere c → R t c.objects (step p c t).objects
-    moved c t known w = moved-of c t (slice_get c.threads t) refl known w
+    -- what a step does to the objects is allowed
+    pub step-allowed : (c : Config) (t : ℕ) → AllKnown c → Everywhere c → R t c.objects (step p c t).objects
+    step-allowed c t known w = step_of-allowed c t (slice_get c.threads t) refl known w
 
     begun-for : (t d u : ℕ) (o : Option UnitCode) → unit_number p d MAIN 1 ≡ Some u → slice_get p.units u ≡ o
         → As (begun_objects p.classes) t (Some (main_thread (call_for u o (value.Null ∷ []) Own)))

@@ -35,15 +35,15 @@ step-there p c t h e m = ap (step_of p c t) e ∙ ap (with_step c t) m ∙ put-s
 pub absent-same : (p : Program) (c : Config) (t : ℕ) → slice_get c.threads t ≡ None → step p c t ≡ c
 absent-same p c t e = ap (step_of p c t) e
 
-moved-over : (p : Program) (t : ℕ) (os : List Obj) (h : Thread) (cs : List Call) → h.mode ≡ mode.Over
+thread_step-over : (p : Program) (t : ℕ) (os : List Obj) (h : Thread) (cs : List Call) → h.mode ≡ mode.Over
     → thread_step p t os h cs ≡ record { objects = os; calls = cs; mode = h.mode; started = None }
-moved-over p t os h [] e = refl
-moved-over p t os h (c ∷ cs) e =
+thread_step-over p t os h [] e = refl
+thread_step-over p t os h (c ∷ cs) e =
     ap (call_step p t (record { objects = os; call = c; below = cs })) e
     ∙ ap (λ (m : Mode). record { objects = os; calls = c ∷ cs; mode = m; started = None }) (sym e)
 
 pub over-same : (p : Program) (c : Config) (t : ℕ) (h : Thread) → slice_get c.threads t ≡ Some h → h.mode ≡ mode.Over → step p c t ≡ c
-over-same p c t h e m = step-there p c t h e (moved-over p t c.objects h h.calls m)
+over-same p c t h e m = step-there p c t h e (thread_step-over p t c.objects h h.calls m)
 
 blocked-next : (p : Program) (t : ℕ) (f : Frame) (k : Code) (ts : List Value) (r : ℕ) → entered_next k ts ≡ Some r
     → blocks t (slice_get f.objects r) ≡ true → running_step p t (with_rest (with_temps f ts) k) k ≡ goes_on (with_rest (with_temps f ts) k)

@@ -34,7 +34,7 @@ use Rattle.core_types.specs.Types.{Types}
 use Rattle.core_laws.specs.Places.{Each}
 use Rattle.core_types.specs.Configs.{IsThere, CallsFit, ThreadFits, ConfigFits}
 use Rattle.core_types.specs.Faults.{faults, is_ending_thread, is_over, is_over_thread, is_clear, leaves_last}
-use Rattle.core_types.proofs.Steps.{running-found, leaving-found, moved-kept}
+use Rattle.core_types.proofs.Steps.{running-found, leaving-found, thread_step-kept}
 
 abbrev after_of : After → Thread
 after_of a = record { calls = a.calls; mode = a.mode }
@@ -280,4 +280,4 @@ over-by-leaving p T c t call below m w e =
     let h : Thread = record { calls = call ∷ below; mode = m } in
     ap is_over_thread (thread-after p c t _ e)
     ∙ over-move p T t (record { objects = c.objects; call = call; below = below }) m calls
-    (moved-kept p T w.program t c.objects h (call ∷ below) w.fields w.shaped.holders (found-there p T c t _ w e) calls).calls
+    (thread_step-kept p T w.program t c.objects h (call ∷ below) w.fields w.shaped.holders (found-there p T c t _ w e) calls).calls

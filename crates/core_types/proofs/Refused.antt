@@ -1,13 +1,14 @@
 -- Units that no types make well typed.
-use Rattle.std.proofs.Common.{◌≡◌, ◌≤◌, ℕ, zero, suc, ◌==◌, ⊎_elim, Bool, true, false, List, [], ◌∷◌, Option, Some, None, length, slice_get, refl, sym, ap, ◌∙◌, subst, arith}
+use Rattle.std.proofs.Common.{◌≡◌, ◌≤◌, ℕ, zero, suc, ◌==◌, ◌&&◌, not, if◌then◌else◌, ⊎_elim, Bool, true, false, List, [], ◌∷◌, Option, Some, None, length, slice_get, refl, sym, ap, ◌∙◌, subst, arith}
 use Rattle.std.proofs.lemmas.Bool.{ltb-true}
 use Rattle.std.proofs.lemmas.Bool.Decides.{eqb_tells}
-use Rattle.core_model.specs.Code.{Code, Done, Do}
+use Rattle.core_model.specs.Code.{Code, Done, Do, If, While, Enter, EnterClass, Exit, ◌⧺◌}
 use Rattle.core_model.specs.Units.{unit_number}
-use Rattle.core_model.specs.declared.program.TheConstants.{NEW}
+use Rattle.core_model.specs.declared.program.TheConstants.{NEW, RUN}
 use Rattle.core_model.specs.declared.instr.Known.{Known}
 use Rattle.core_model.specs.declared.instr.Known.TheVariants as known
 use Rattle.core_model.specs.declared.instr.Note.{Note}
+use Rattle.core_model.specs.declared.instr.Plain.{Plain}
 use Rattle.core_model.specs.declared.instr.Plain.TheVariants as plain
 use Rattle.core_model.specs.declared.program.Program.{Program}
 use Rattle.core_model.specs.declared.program.ClassInfo.{ClassInfo}
@@ -15,9 +16,12 @@ use Rattle.core_model.specs.declared.program.UnitName.{UnitName}
 use Rattle.core_model.specs.declared.program.UnitCode.{UnitCode}
 use Rattle.core_model.specs.declared.value.Value.{Value}
 use Rattle.core_model.specs.declared.value.Value.TheVariants as value
-use Rattle.core_types.specs.Types.{Ty, IntType, NullType, Types, of_unit, args_of, locals_of}
+use Rattle.core_laws.specs.Constructors.{calls_new, new_uncalled}
+use Rattle.core_laws.specs.Places.{again, Along, Always}
+use Rattle.core_types.specs.Slots.{Use, Goes, Wrong}
+use Rattle.core_types.specs.Types.{Ty, BoolType, IntType, NullType, RunnableType, Types, UnitTypes, of_unit, args_of, locals_of}
 use Rattle.core_types.specs.Belonging.{is_int, Suits}
-use Rattle.core_types.specs.Uses.{popped, lists_name, made_bare, constructed, of_make, of_call, returned}
+use Rattle.core_types.specs.Uses.{popped, lists_name, made_bare, constructed, of_make, called_on, called_static, of_call, returned, use_of}
 use Rattle.core_types.specs.Need.{need, need_of, AllSuit, UseFits, Fits}
 use Rattle.core_types.specs.Paths.{reads}
 use Rattle.core_types.specs.Programs.{unit_class, MemberFits, Returns, UnitFits, ProgramFits}
@@ -121,3 +125,57 @@ pub unit-of-its-class : (p : Program) (T : Types) (c i : ℕ) (info : ClassInfo)
 unit-of-its-class p T c i info m code h there listed at =
     let member : MemberFits p T c m = each-get (MemberFits p T c) info.units i m listed (h.members c info there) in
     some-is (sym (ap unit_class at) ∙ member.class)
+
+-- ---- no place of the code calls a constructor but to make an object
+
+wrong-if : (T : Types) (b : Bool) (u : Use Ty) (after : List Ty) → UseFits T (if b then Wrong else u) after → not b ≡ true
+wrong-if T true u after h = absurd h
+wrong-if T false u after h = refl
+
+run-if : (T : Types) (a b : Bool) (u : Use Ty) (after : List Ty) → UseFits T (if a && b then u else Wrong) after → a ≡ true
+run-if T true b u after h = refl
+run-if T false b u after h = absurd h
+
+other-name : (m : ℕ) → (m == RUN) ≡ true → not (m == NEW) ≡ true
+other-name m e =
+    let is : m ≡ RUN = ⊎_elim (λ y. y.1) (λ d. let f : (m == RUN) ≡ false = d.0 in absurd (let no : ⊥ = cc in no)) (eqb_tells m RUN) in
+    ap (λ z. not (z == NEW)) is
+
+of_call-uncalled : (p : Program) (T : Types) (k : Known) (m a : ℕ) (after : List Ty) → UseFits T (of_call p T k m a) after → not (m == NEW) ≡ true
+of_call-uncalled p T known.Nothing m a after h = other-name m (run-if T (m == RUN) (a == 0) (Goes (RunnableType ∷ []) []) after h)
+of_call-uncalled p T (known.Class c) m a after h = wrong-if T (m == NEW) (called_on T (unit_number p c m a)) after h
+of_call-uncalled p T (known.Monitor x) m a after h = absurd h
+
+plain-uncalled : (p : Program) (T : Types) (u : UnitTypes) (n : Note) (i : Plain) (after : List Ty) → UseFits T (use_of p T u n i) after
+    → not (calls_new i) ≡ true
+plain-uncalled p T u n (plain.Call m a) after h = of_call-uncalled p T n.known m a after h
+plain-uncalled p T u n (plain.CallStatic c m a) after h = wrong-if T (m == NEW) (called_static T (unit_number p c m a)) after h
+plain-uncalled p T u n i after h = refl
+
+abbrev Uncalled : Code → Type 0
+Uncalled k = new_uncalled k ≡ true
+
+uncalled-along : (p : Program) (T : Types) (u : UnitTypes) (k m : Code) (after : List Ty) → Fits p T u k after → Along Uncalled k m
+uncalled-along p T u Done m after h = tt
+uncalled-along p T u (Do n i k) m after h = (plain-uncalled p T u n i (need p T u k after) h.0, uncalled-along p T u k m after h.1)
+uncalled-along p T u (If n a b k) m after h = (
+  refl,
+  uncalled-along p T u a (k ⧺ m) (need p T u k after) h.1,
+  uncalled-along p T u b (k ⧺ m) (need p T u k after) h.2,
+  uncalled-along p T u k m after h.3,
+)
+uncalled-along p T u (While n c b k) m after h = (
+  refl,
+  refl,
+  uncalled-along p T u c (again n c b (k ⧺ m)) (BoolType ∷ need p T u k after) h.2,
+  uncalled-along p T u b (While n c b (k ⧺ m)) (need p T u k after) h.3,
+  uncalled-along p T u k m after h.4,
+)
+uncalled-along p T u (Enter n b k) m after h =
+    (refl, λ r. (uncalled-along p T u b (Exit n r (k ⧺ m)) (need p T u k after) h.0, refl), uncalled-along p T u k m after h.1)
+uncalled-along p T u (EnterClass n c b k) m after h =
+    (refl, (uncalled-along p T u b (Exit n c (k ⧺ m)) (need p T u k after) h.1, refl), uncalled-along p T u k m after h.2)
+uncalled-along p T u (Exit n r k) m after h = (refl, uncalled-along p T u k m after h)
+
+pub always-uncalled : (p : Program) (T : Types) (u : ℕ) (code : UnitCode) → UnitFits p T u code → Always (λ k. new_uncalled k ≡ true) code.code
+always-uncalled p T u code h = uncalled-along p T (of_unit T u) code.code Done [] h.fits

@@ -26,7 +26,7 @@ use Rattle.core_laws.proofs.Owners.{get-set, get-other}
 use Rattle.core_laws.proofs.Shaping.{change-kind, append-kind}
 use Rattle.core_laws.proofs.Always.{always-closed, always-here}
 use Rattle.core_laws.proofs.Carried.{Has, UnitsHave, step-has, begin-has}
-use Rattle.core_laws.proofs.Stepping.{or_over, IsStepwise, moved, threads-each}
+use Rattle.core_laws.proofs.Stepping.{or_over, IsStepwise, step-allowed, threads-each}
 use Rattle.core_types.specs.Types.{Ty, ClassTypes, Types, or_no_class, of_class, of_unit, has, is_class}
 use Rattle.core_types.specs.Belonging.{is_of, AllBelong}
 use Rattle.core_types.specs.Uses.{popped, field_written, of_field}
@@ -244,7 +244,7 @@ module _ (p : Program) (T : Types) (program : ProgramFits p T) where
         → field_at (run p c more).objects r i ≡ Some v
     field-run c [] w s r v e g = g
     field-run c (t ∷ more) w s r v e g =
-        let next = moved p Known_thread (λ os m z cs. Unit {0}) Stays stepwise c t (known-of c w s) (λ q. tt) r v e g in
+        let next = step-allowed p Known_thread (λ os m z cs. Unit {0}) Stays stepwise c t (known-of c w s) (λ q. tt) r v e g in
         field-run (step p c t) more (step-fits p T c t w) (spare-step c t s) r v next.0 next.1
 
     pub field-stays : (mains schedule more : List ℕ) → Each (λ c. has p.mains c ≡ true) mains → (r : ℕ) (v : Value)

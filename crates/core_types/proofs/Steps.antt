@@ -186,8 +186,8 @@ module _ (p : Program) (T : Types) (program : ProgramFits p T) where
       (rw (need-turn p T u n c b k [] g.going.fits) g.filled)
 
   -- the same call over other objects
-  moved-found : (f : Frame) (k : Code) (ns : List Obj) → Grows f.objects ns → FieldsFit T ns → Holders p ns → Found f k → Found (with_objects f ns) k
-  moved-found f k ns w fields holders g = record {
+  found-with_objects : (f : Frame) (k : Code) (ns : List Obj) → Grows f.objects ns → FieldsFit T ns → Holders p ns → Found f k → Found (with_objects f ns) k
+  found-with_objects f k ns w fields holders g = record {
     fields = fields;
     holders = holders;
     going = going-grows p T f.objects ns (true_on_top f.call.temps) (record f.call { rest = k }) w g.going;
@@ -201,7 +201,7 @@ module _ (p : Program) (T : Types) (program : ProgramFits p T) where
       → Found f k → Found (with_objects f (changed f.objects r by)) k
   monitor-found f k r by same alike g =
       let w : Grows f.objects (changed f.objects r by) = grows-changed f.objects r by same in
-      moved-found f k (changed f.objects r by) w
+      found-with_objects f k (changed f.objects r by) w
       (fields-changed T f.objects r by same (λ x e h. rw (same x, alike x) h) g.fields)
       (λ c info e. w c _ (g.holders c info e)) g
 
@@ -378,8 +378,8 @@ module _ (p : Program) (T : Types) (program : ProgramFits p T) where
   over-found os mode.Ending fields h = absurd h
   over-found os mode.Over fields h = record { fields = fields; calls = tt; there = tt; started = tt; ending = refl }
 
-  pub moved-kept : (t : ℕ) (os : List Obj) (h : Thread) (cs : List Call) → FieldsFit T os → Holders p os → Each (IsThere p T os) cs
+  pub thread_step-kept : (t : ℕ) (os : List Obj) (h : Thread) (cs : List Call) → FieldsFit T os → Holders p os → Each (IsThere p T os) cs
       → CallsFit p T os h.mode cs → Kept p T (is_ending (thread_step p t os h cs).mode) (thread_step p t os h cs)
-  moved-kept t os h [] fields holders there calls = over-found os h.mode fields calls
-  moved-kept t os h (c ∷ cs) fields holders there calls =
+  thread_step-kept t os h [] fields holders there calls = over-found os h.mode fields calls
+  thread_step-kept t os h (c ∷ cs) fields holders there calls =
       move-found t (record { objects = os; call = c; below = cs }) h.mode fields holders there calls

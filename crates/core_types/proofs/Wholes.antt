@@ -35,7 +35,7 @@ use Rattle.core_types.proofs.Fields.{class-is}
 use Rattle.core_types.proofs.Straightly.{StartedFits}
 use Rattle.core_types.proofs.Calls.{this-none, begun-fits, begun-there}
 use Rattle.core_types.proofs.Numbers.{calls-there-grow, kinds-append, kinds-cons, kinds-none, kinds-fresh, kinds-kept, member-at}
-use Rattle.core_types.proofs.Steps.{moved-kept}
+use Rattle.core_types.proofs.Steps.{thread_step-kept}
 
 module _ (p : Program) (T : Types) where
   abbrev Fit : List Obj → Thread → Type 0
@@ -67,7 +67,7 @@ module _ (p : Program) (T : Types) where
   stepped-of c t None e w g = record { fields = w.fields; threads = w.threads; there = w.there }
   stepped-of c t (Some now) e w g =
       let a : After = thread_step p t c.objects now now.calls in
-      let k = moved-kept p T w.program t c.objects now now.calls w.fields w.shaped.holders (each-get (There c.objects) c.threads t now e w.there) (each-get (Fit c.objects) c.threads t now e w.threads) in
+      let k = thread_step-kept p T w.program t c.objects now now.calls w.fields w.shaped.holders (each-get (There c.objects) c.threads t now e w.there) (each-get (Fit c.objects) c.threads t now e w.threads) in
       record {
         fields = k.fields;
         threads = each-append (Fit a.objects) (slice_set c.threads t (record { calls = a.calls; mode = a.mode })) (option_to_list a.started)

@@ -10,6 +10,8 @@ ghost use Rattle.core_model.specs.declared.program.UnitName.{UnitName};
 ghost use Rattle.core_model.specs.declared.program.UnitCode.{UnitCode};
 ghost use Rattle.core_model.specs.declared.value.Value.{Value};
 ghost use Rattle.core_model.specs.declared.value.Value.TheVariants as value;
+ghost use Rattle.core_laws.specs.Constructors.{new_uncalled};
+ghost use Rattle.core_laws.specs.Places.{Always};
 ghost use Rattle.core_types.specs.Types.{Ty, IntType, Types, of_unit, args_of, locals_of};
 ghost use Rattle.core_types.specs.Uses.{lists_name};
 ghost use Rattle.core_types.specs.Programs.{UnitFits, ProgramFits};
@@ -18,7 +20,8 @@ ghost use Rattle.core_types.specs.Programs.{UnitFits, ProgramFits};
 /// type int to null, reads a local that isn't set, leaves a temporary at its end, comes to its end
 /// though it has a result, gives a result though it has none, or calls a constructor. An object that
 /// is made without a constructor has no arguments, and its class lists no constructor. A unit's class
-/// is the one that lists it.
+/// is the one that lists it. No place of a well typed unit's code calls a constructor but to make an
+/// object.
 pub fn ill_typed_code_is_refused()
     ensures negated { (p : Program) (T : Types) (u : ℕ) (code : UnitCode) (n m : Note) (k : Code) → UnitFits p T u code
         → code.code ≡ Do n (plain.Const (value.Bool true)) (Do m plain.Neg k) → ⊥ }
@@ -39,4 +42,6 @@ pub fn ill_typed_code_is_refused()
         → (a ≡ 0) × (lists_name NEW info.units ≡ false) }
     ensures listed { (p : Program) (T : Types) (c i : ℕ) (info : ClassInfo) (m : UnitName) (code : UnitCode) → ProgramFits p T
         → slice_get p.classes c ≡ Some info → slice_get info.units i ≡ Some m → slice_get p.units m.unit ≡ Some code → code.class ≡ c }
+    ensures uncalled { (p : Program) (T : Types) (u : ℕ) (code : UnitCode) → UnitFits p T u code
+        → Always (λ k. new_uncalled k ≡ true) code.code }
 {}

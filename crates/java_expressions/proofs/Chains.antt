@@ -4,23 +4,14 @@ use Rattle.std.proofs.lemmas.Bool.{le-ltb}
 use Rattle.std.proofs.Math.Dec.{eqb-suc-zero}
 use Rattle.std.specs.Str.{bytes_eq}
 use Rattle.std.proofs.lemmas.Slice.Eq.{bytes_eq-Decides}
-use Rattle.desk_base.specs.declared.span.Span.{Span}
-use Rattle.java_tree.specs.declared.kind.Kind.{Kind}
-use Rattle.java_tree.specs.declared.kind.Kind.TheVariants as k
-use Rattle.java_tree.specs.declared.token.Token.{Token}
-use Rattle.java_tree.specs.declared.token.Lexeme.{Lexeme}
-use Rattle.java_tree.specs.declared.expr.Expr.{Expr, out-Expr, roll-Expr}
-use Rattle.java_tree.specs.declared.expr.Expr.TheOpen.{Expr-F}
+use Rattle.java_phrases.specs.Tree.{Span, Kind, Kind as k, Token, Lexeme, Expr, out-Expr, roll-Expr, Expr-F, BinaryOp}
+use Rattle.java_phrases.specs.Common.{Mark, Sign, Spelled, smallest_digits, Outcome, Found, Parser, next_kind, sees, sees_text, word, turns_from, turns}
 use Rattle.java_tree.specs.declared.expr.Expr.TheViews.{roll-out-Expr}
 use Rattle.java_tree.specs.declared.expr.Expr.TheVariants as tree
 use Rattle.java_tree.specs.declared.expr.Expr.TheVariants.{rolls-Int, rolls-Select, rolls-CallOn, rolls-Not, rolls-Neg, rolls-Binary}
-use Rattle.java_tree.specs.declared.expr.BinaryOp.{BinaryOp}
 use Rattle.java_expressions.specs.declared.tall.Tall.{Tall}
 use Rattle.java_expressions.specs.declared.tall.Arguments.{Arguments}
-use Rattle.java_phrases.specs.Phrase.{Mark, Sign, Spelled}
-use Rattle.java_phrases.specs.Texts.{smallest_digits}
 use Rattle.java_expressions.specs.Spelling.{sign_of, level_of, Smallest, Layered, Spells}
-use Rattle.java_phrases.specs.Parser.{Outcome, Found, Parser, next_kind, sees, sees_text, word, turns_from, turns}
 use Rattle.java_expressions.specs.Reading.{tall, binary_tree, selection, post, post_read, inverted, smallest, negated, unary_by, unary, operation, climb, climbs, level, expr, arguments, sees_smallest}
 use Rattle.java_phrases.proofs.Phrases.{next-sign, next-mark, sign-complete, word-complete, sign-mark}
 use Rattle.java_phrases.proofs.Loops.{turn_once, turn_ends}

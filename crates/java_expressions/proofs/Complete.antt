@@ -5,24 +5,14 @@ use Rattle.std.proofs.lemmas.List.{append-nil}
 use Rattle.std.proofs.lemmas.Bool.{ltb-true, lt-ltb, le-ltb}
 use Rattle.std.specs.Str.{bytes_eq}
 use Rattle.std.proofs.lemmas.Slice.Eq.{bytes_eq-Decides}
-use Rattle.desk_base.specs.declared.span.Span.{Span}
-use Rattle.java_tree.specs.declared.kind.Kind.{Kind}
-use Rattle.java_tree.specs.declared.kind.Kind.TheVariants as k
-use Rattle.java_tree.specs.declared.token.Token.{Token}
-use Rattle.java_tree.specs.declared.token.Lexeme.{Lexeme}
-use Rattle.java_tree.specs.declared.expr.Expr.{Expr, out-Expr, roll-Expr}
-use Rattle.java_tree.specs.declared.expr.Expr.TheOpen.{Expr-F}
+use Rattle.java_phrases.specs.Tree.{Span, Kind, Kind as k, Token, Lexeme, Expr, out-Expr, roll-Expr, Expr-F, BinaryOp, BinaryOp as op}
+use Rattle.java_phrases.specs.Common.{Phrase, ◌⨾◌, Mark, Sign, Spelled, Separated, Each, smallest_digits, thread_name, Outcome, Found, Parser, ◌>>=◌, pure, same_kind, next_kind, sees, sees_text, sign, turns_from, turns}
 use Rattle.java_tree.specs.declared.expr.Expr.TheVariants as tree
 use Rattle.java_tree.specs.declared.expr.Expr.TheVariants.{rolls-Int, rolls-Str, rolls-True, rolls-False, rolls-Null, rolls-This, rolls-Name, rolls-Call, rolls-New, rolls-Paren, rolls-Select, rolls-CallOn, rolls-Not, rolls-Neg, rolls-Binary}
-use Rattle.java_tree.specs.declared.expr.BinaryOp.{BinaryOp}
-use Rattle.java_tree.specs.declared.expr.BinaryOp.TheVariants as op
 use Rattle.java_expressions.specs.declared.tall.Tall.{Tall}
 use Rattle.java_expressions.specs.declared.tall.Listed.{Listed}
 use Rattle.java_expressions.specs.declared.tall.Arguments.{Arguments}
-use Rattle.java_phrases.specs.Phrase.{Phrase, ◌⨾◌, Mark, Sign, Spelled, Separated, Each}
-use Rattle.java_phrases.specs.Texts.{smallest_digits, thread_name}
 use Rattle.java_expressions.specs.Spelling.{sign_of, level_of, Args, Layered, Spells}
-use Rattle.java_phrases.specs.Parser.{Outcome, Found, Parser, ◌>>=◌, pure, same_kind, next_kind, sees, sees_text, sign, turns_from, turns}
 use Rattle.java_expressions.specs.Reading.{tall, none, with_item, small, class_name, one_more, some_items, items_by, arguments, named, created, parenthesized, primary_by, primary, climbs, next_operator, operator_by, operator, tight, sees_smallest}
 use Rattle.java_phrases.proofs.Phrases.{sees-next, next-sign, next-mark, next-word, sign-complete, word-complete, sign-mark}
 use Rattle.java_phrases.proofs.Loops.{turn_once, turn_ends}
@@ -77,48 +67,15 @@ seven ts = seven_kind (next_kind ts)
 
 operator_sign : (o : BinaryOp) → operator (sign_of o) ≡ Some o
 operator_sign op.Or = refl
-operator_sign op.And = refl
-operator_sign op.Equal = refl
-operator_sign op.NotEqual = refl
-operator_sign op.Less = refl
-operator_sign op.Greater = refl
-operator_sign op.AtMost = refl
-operator_sign op.AtLeast = refl
-operator_sign op.Add = refl
-operator_sign op.Subtract = refl
-operator_sign op.Multiply = refl
-operator_sign op.Divide = refl
-operator_sign op.Remainder = refl
+operator_sign _ = refl
 
 no_dot : (o : BinaryOp) → same_kind (sign_of o) k.Dot ≡ false
 no_dot op.Or = refl
-no_dot op.And = refl
-no_dot op.Equal = refl
-no_dot op.NotEqual = refl
-no_dot op.Less = refl
-no_dot op.Greater = refl
-no_dot op.AtMost = refl
-no_dot op.AtLeast = refl
-no_dot op.Add = refl
-no_dot op.Subtract = refl
-no_dot op.Multiply = refl
-no_dot op.Divide = refl
-no_dot op.Remainder = refl
+no_dot _ = refl
 
 no_call : (o : BinaryOp) → same_kind (sign_of o) k.LParen ≡ false
 no_call op.Or = refl
-no_call op.And = refl
-no_call op.Equal = refl
-no_call op.NotEqual = refl
-no_call op.Less = refl
-no_call op.Greater = refl
-no_call op.AtMost = refl
-no_call op.AtLeast = refl
-no_call op.Add = refl
-no_call op.Subtract = refl
-no_call op.Multiply = refl
-no_call op.Divide = refl
-no_call op.Remainder = refl
+no_call _ = refl
 
 pub next_is : (least : ℕ) (o : BinaryOp) (ts : List Token) → next_kind ts ≡ Some (sign_of o) → least ≤ level_of o → next_operator least ts ≡ Some o
 unfolding next_operator

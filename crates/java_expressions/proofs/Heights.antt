@@ -1,17 +1,13 @@
 -- What the functions of the code need of what was read: that it is low enough, and that tokens were taken.
 use Rattle.std.proofs.Common.{◌≡◌, ℕ, suc, ◌+◌, ◌<◌, ◌≤◌, Bool, true, false, cond, nat_lt, List, length, Some, Result, Ok, Err, IfOk, refl, ◌∙◌, arith}
-use Rattle.java_tree.specs.declared.kind.Kind.TheVariants as k
-use Rattle.java_tree.specs.declared.token.Token.{Token}
-use Rattle.java_tree.specs.declared.token.Lexeme.{Lexeme}
-use Rattle.java_tree.specs.declared.expr.BinaryOp.{BinaryOp}
+use Rattle.java_phrases.specs.Tree.{Kind as k, Token, Lexeme, BinaryOp}
+use Rattle.java_phrases.specs.Common.{Steps, Found, Lost, ◌>>=◌, pure, fail, sees, sign, word}
 use Rattle.java_phrases.specs.declared.error.SyntaxError.{SyntaxError}
 use Rattle.java_phrases.specs.declared.tokens.Tokens.{Tokens}
 use Rattle.java_expressions.specs.declared.tall.Tall.{Tall}
 use Rattle.java_expressions.specs.declared.tall.Listed.{Listed}
 use Rattle.java_expressions.specs.declared.tall.Arguments.{Arguments}
-use Rattle.java_phrases.specs.Cursor.{Steps}
 use Rattle.java_expressions.specs.Spelling.{sign_of, level_of}
-use Rattle.java_phrases.specs.Parser.{Found, Lost, ◌>>=◌, pure, fail, sees, sign, word}
 use Rattle.java_expressions.specs.Reading.{with_item, binary_tree, select_tree, call_on_tree, one_more, arguments, selected_by, selection, operation, climb, next_operator, expr}
 use Rattle.java_phrases.proofs.Phrases.{and_then-some, pure-is, sign-sound, word-sound}
 use Rattle.java_expressions.proofs.Sound.{sign-shorter, word-shorter, arguments-sound, expr-sound, next-level}

@@ -1,19 +1,14 @@
 -- The two laws of the reader over tokens, as its functions need them.
-use Rattle.std.proofs.Common.{◌≡◌, ◌≢◌, ℕ, Bool, true, false, List, [], ◌∷◌, None, Result, Ok, Err, IfOk, refl, ap, ◌∙◌, sym, subst, lit≤}
+use Rattle.std.proofs.Common.{◌≡◌, ℕ, Bool, true, false, List, [], ◌∷◌, None, Result, Ok, Err, IfOk, refl, ap, ◌∙◌, sym, subst, lit≤, rules}
 use Rattle.std.proofs.Math.Nat.{le_refl}
-use Rattle.java_tree.specs.declared.kind.Kind.{Kind}
-use Rattle.java_tree.specs.declared.kind.Kind.TheVariants as k
-use Rattle.java_tree.specs.declared.token.Token.{Token}
-use Rattle.java_tree.specs.declared.expr.Expr.{Expr}
+use Rattle.java_phrases.specs.Tree.{Kind, Kind as k, Token, Expr}
+use Rattle.java_phrases.specs.Common.{Steps, ahead, Gives, Outcome, Found, Parser, same_kind, next_kind, sees}
 use Rattle.java_phrases.specs.declared.error.SyntaxError.{SyntaxError}
-use Rattle.java_phrases.specs.declared.error.SyntaxError.TheVariants as error
 use Rattle.java_phrases.specs.declared.tokens.Tokens.{Tokens}
 use Rattle.java_expressions.specs.declared.tall.Tall.{Tall}
 use Rattle.java_expressions.specs.Spelling.{Spells, Ends, goes_on_with}
-use Rattle.java_phrases.specs.Cursor.{Steps, ahead}
-use Rattle.java_phrases.specs.Answers.{Gives}
-use Rattle.java_phrases.specs.Parser.{Outcome, Found, Lost, Parser, same_kind, next_kind, sees}
 use Rattle.java_expressions.specs.Reading.{tall, ended, ended_by, expr, post_read, goes_on, operator, next_operator}
+use Rattle.java_phrases.proofs.Answered.{gives}
 use Rattle.java_phrases.proofs.Phrases.{and_then-some}
 use Rattle.java_expressions.proofs.Complete.{Closed, closed-by, FindsTall}
 use Rattle.java_expressions.proofs.Chains.{expr-complete, post_read-complete}
@@ -57,21 +52,7 @@ found_post limit (Err e) old new reads = tt
 
 kinds-off : (kind : Kind) → goes_on_with kind ≡ false → (operator kind ≡ None) × (same_kind kind k.Dot ≡ false) × (same_kind kind k.LParen ≡ false)
 kinds-off k.Or e = cc
-kinds-off k.And e = cc
-kinds-off k.Equal e = cc
-kinds-off k.NotEqual e = cc
-kinds-off k.Less e = cc
-kinds-off k.Greater e = cc
-kinds-off k.AtMost e = cc
-kinds-off k.AtLeast e = cc
-kinds-off k.Plus e = cc
-kinds-off k.Minus e = cc
-kinds-off k.Times e = cc
-kinds-off k.Divide e = cc
-kinds-off k.Remainder e = cc
-kinds-off k.Dot e = cc
-kinds-off k.LParen e = cc
-kinds-off _ e = (refl, refl, refl)
+kinds-off _ e = first_of (cc, search rules)
 
 closed-end : (p : ℕ) (ts : List Token) → Ends ts → Closed p ts
 unfolding next_operator next_kind sees
@@ -81,26 +62,19 @@ closed-end p (t ∷ ts) ends = let (a, b, d) = kinds-off t.kind (ends) in closed
 ended-complete : (p : Parser Tall) (e : Expr) (h : ℕ) (ts rest : List Token) → p ts ≡ Found (tall e h) rest → Ends rest → ended p ts ≡ Found e rest
 ended-complete p e h ts rest is ends = rw (is, off_goes rest ends) refl
 
-gives : (p : Parser Tall) (limit : ℕ) (r : Result Expr SyntaxError) (old new : Tokens) → Steps (ended p) old r new → (e : Expr) (rest : List Token) → FindsTall limit (p (ahead old)) e rest → Ends rest → Gives r (ahead new) e rest
-gives p limit (Ok found) old new (is, kept) e rest finds ends =
-    let same : Found found (ahead new) ≡ Found e rest = sym is ∙ ended-complete p e finds.height (ahead old) rest finds.is ends in
-    (cc, cc)
-gives p limit (Err error.NotSpelled) old new reads e rest finds ends =
-    let other : error.NotSpelled ≢ error.OutOfMemory = λ e. cc in
-    let same : Lost ≡ Found e rest = sym (reads other) ∙ ended-complete p e finds.height (ahead old) rest finds.is ends in
-    cc
-gives p limit (Err error.OutOfMemory) old new reads e rest finds ends = refl
+gives-tall : (p : Parser Tall) (limit : ℕ) (r : Result Expr SyntaxError) (old new : Tokens) → Steps (ended p) old r new → (e : Expr) (rest : List Token) → FindsTall limit (p (ahead old)) e rest → Ends rest → Gives r (ahead new) e rest
+gives-tall p limit r old new reads e rest finds ends = gives (ended p) old new r reads e rest (ended-complete p e finds.height (ahead old) rest finds.is ends)
 
 pub only_expr : (limit : ℕ) (r : Result Expr SyntaxError) (old new : Tokens) → Steps (ended (expr limit 1)) old r new
     → (e : Expr) (rest : List Token) → Spells limit 1 e (ahead old) rest → Ends rest → Gives r (ahead new) e rest
 only_expr limit r old new reads e rest s ends =
-    gives (expr limit 1) limit r old new reads e rest (expr-complete limit limit 1 e (ahead old) rest (le_refl limit) (lit≤ tt) s (closed-end 1 rest ends)) ends
+    gives-tall (expr limit 1) limit r old new reads e rest (expr-complete limit limit 1 e (ahead old) rest (le_refl limit) (lit≤ tt) s (closed-end 1 rest ends)) ends
 
 pub only_post : (limit : ℕ) (r : Result Expr SyntaxError) (old new : Tokens) → Steps (ended (post_read limit)) old r new
     → (e : Expr) (rest : List Token) → Spells limit 8 e (ahead old) rest → Ends rest → Gives r (ahead new) e rest
 only_post limit r old new reads e rest s ends =
     let closed = closed-end 8 rest ends in
-    gives (post_read limit) limit r old new reads e rest (post_read-complete limit e (ahead old) rest s closed.dot closed.call) ends
+    gives-tall (post_read limit) limit r old new reads e rest (post_read-complete limit e (ahead old) rest s closed.dot closed.call) ends
 
 -- ---- tokens begin with one expression at most
 

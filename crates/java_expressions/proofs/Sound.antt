@@ -3,24 +3,14 @@ use Rattle.std.proofs.Common.{◌≡◌, ◌≢◌, ℕ, zero, suc, ◌+◌, ◌
 use Rattle.std.proofs.lemmas.Bool.{ltb-false, ltb-true}
 use Rattle.std.specs.Str.{bytes_eq}
 use Rattle.std.proofs.lemmas.Slice.Eq.{bytes_eq-Decides}
-use Rattle.desk_base.specs.declared.span.Span.{Span}
-use Rattle.java_tree.specs.declared.kind.Kind.{Kind}
-use Rattle.java_tree.specs.declared.kind.Kind.TheVariants as k
-use Rattle.java_tree.specs.declared.token.Token.{Token}
-use Rattle.java_tree.specs.declared.token.Lexeme.{Lexeme}
-use Rattle.java_tree.specs.declared.expr.Expr.{Expr, out-Expr}
-use Rattle.java_tree.specs.declared.expr.Expr.TheOpen.{Expr-F}
+use Rattle.java_phrases.specs.Tree.{Span, Kind, Kind as k, Token, Lexeme, Expr, out-Expr, Expr-F, BinaryOp, BinaryOp as op}
+use Rattle.java_phrases.specs.Common.{Phrase, ◌⨾◌, Mark, Sign, Spelled, Separated, Each, smallest_digits, thread_name, Found, Parser, and_then, ◌>>=◌, pure, fail, same_kind, next_kind, sees, sees_text, sign, word, turns_from, turns}
 use Rattle.java_tree.specs.declared.expr.Expr.TheVariants as tree
 use Rattle.java_tree.specs.declared.expr.Expr.TheVariants.{outs-Int, outs-Str, outs-True, outs-False, outs-Null, outs-This, outs-Name, outs-Call, outs-New, outs-Paren, outs-Select, outs-CallOn, outs-Not, outs-Neg, outs-Binary}
-use Rattle.java_tree.specs.declared.expr.BinaryOp.{BinaryOp}
-use Rattle.java_tree.specs.declared.expr.BinaryOp.TheVariants as op
 use Rattle.java_expressions.specs.declared.tall.Tall.{Tall}
 use Rattle.java_expressions.specs.declared.tall.Listed.{Listed}
 use Rattle.java_expressions.specs.declared.tall.Arguments.{Arguments}
-use Rattle.java_phrases.specs.Phrase.{Phrase, ◌⨾◌, Mark, Sign, Spelled, Separated, Each}
-use Rattle.java_phrases.specs.Texts.{smallest_digits, thread_name}
 use Rattle.java_expressions.specs.Spelling.{sign_of, level_of, Smallest, Args, Layered, Spells}
-use Rattle.java_phrases.specs.Parser.{Found, Parser, and_then, ◌>>=◌, pure, fail, same_kind, next_kind, sees, sees_text, sign, word, turns_from, turns}
 use Rattle.java_expressions.specs.Reading.{tall, none, with_item, in_parentheses, call_tree, named_tree, new_tree, paren_tree, select_tree, call_on_tree, not_tree, neg_tree, smallest_tree, binary_tree, small, class_name, one_more, some_items, items_by, arguments, named_by, named, created, parenthesized, primary_by, primary, selected_by, selection, post, inverted, smallest, negated_by, negated, unary_by, unary, operation, climb_by, climb, climbs, level, expr, post_read, next_operator, operator_by, operator, tight, sees_smallest}
 use Rattle.java_phrases.proofs.Phrases.{and_then-some, pure-is, sign-sound, word-sound, mark-sign}
 
@@ -150,18 +140,7 @@ snoc-some l x y xs is = ap (λ l. l ++ y ∷ []) is
 
 pub next-level : (o : BinaryOp) → level_of o + 1 ≤ 7
 next-level op.Or = lit≤ tt
-next-level op.And = lit≤ tt
-next-level op.Equal = lit≤ tt
-next-level op.NotEqual = lit≤ tt
-next-level op.Less = lit≤ tt
-next-level op.Greater = lit≤ tt
-next-level op.AtMost = lit≤ tt
-next-level op.AtLeast = lit≤ tt
-next-level op.Add = lit≤ tt
-next-level op.Subtract = lit≤ tt
-next-level op.Multiply = lit≤ tt
-next-level op.Divide = lit≤ tt
-next-level op.Remainder = lit≤ tt
+next-level _ = lit≤ tt
 
 tight_by : (b : Bool) (least : ℕ) (found o : BinaryOp) → nat_lt (level_of found) least ≡ b → cond b None (Some found) ≡ Some o → least ≤ level_of o
 tight_by true least found o is e = cc

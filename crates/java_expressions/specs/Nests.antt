@@ -2,11 +2,11 @@
 use Rattle.std.specs.Prelude.{ℕ, Result}
 use Rattle.std.specs.declared.alloc.Global.{Global}
 use denote.Ref.{MutBor}
+use Rattle.java_phrases.specs.Common.{Steps}
 use Rattle.java_phrases.specs.declared.error.SyntaxError.{SyntaxError}
 use Rattle.java_phrases.specs.declared.tokens.Tokens.{Tokens}
 use Rattle.java_expressions.specs.declared.tall.Tall.{Tall}
 use Rattle.java_expressions.specs.Reading.{expr}
-use Rattle.java_phrases.specs.Cursor.{Steps}
 
 pub record Nests (room : ℕ) (pre : Global → MutBor Tokens → ℕ → ℕ → Type 0)
     (post : Global → MutBor Tokens → ℕ → ℕ → Result Tall SyntaxError → MutBor Tokens → Type 0) : Type 0 where

@@ -2,21 +2,13 @@
 -- answers. That this is the spelling, both ways, is what the public clauses say.
 use Rattle.std.specs.Prelude.{ℕ, zero, suc, ◌+◌, ◌==◌, max, nat_lt, Bool, true, false, if◌then◌else◌, List, [], ◌∷◌, ◌++◌, Option, Some, None, is_some}
 use Rattle.std.specs.Str.{bytes_eq}
-use Rattle.desk_base.specs.declared.span.Span.{Span}
-use Rattle.java_tree.specs.declared.kind.Kind.{Kind}
-use Rattle.java_tree.specs.declared.kind.Kind.TheVariants as k
-use Rattle.java_tree.specs.declared.token.Token.{Token}
-use Rattle.java_tree.specs.declared.token.Lexeme.{Lexeme}
-use Rattle.java_tree.specs.declared.expr.Expr.{Expr}
+use Rattle.java_phrases.specs.Tree.{Span, Kind, Kind as k, Token, Lexeme, Expr, BinaryOp, BinaryOp as op}
+use Rattle.java_phrases.specs.Common.{smallest_digits, thread_name, Parser, Found, ◌>>=◌, ◌>>◌, pure, fail, next_kind, peek, look, sees, sees_text, sign, word, turns}
 use Rattle.java_tree.specs.declared.expr.Expr.TheVariants as tree
-use Rattle.java_tree.specs.declared.expr.BinaryOp.{BinaryOp}
-use Rattle.java_tree.specs.declared.expr.BinaryOp.TheVariants as op
 use Rattle.java_expressions.specs.declared.tall.Tall.{Tall}
 use Rattle.java_expressions.specs.declared.tall.Listed.{Listed}
 use Rattle.java_expressions.specs.declared.tall.Arguments.{Arguments}
-use Rattle.java_phrases.specs.Texts.{smallest_digits, thread_name}
 use Rattle.java_expressions.specs.Spelling.{sign_of, level_of, goes_on_with}
-use Rattle.java_phrases.specs.Parser.{Parser, Found, ◌>>=◌, ◌>>◌, pure, fail, next_kind, peek, look, sees, sees_text, sign, word, turns}
 
 -- ---- operators
 

@@ -1,16 +1,8 @@
 -- Which tokens spell which expression: one clause for each production of the grammar (JLS 8, 15, as
 -- far as the subset goes).
 use Rattle.std.specs.Prelude.{◌≡◌, ◌≢◌, ◌≤◌, ◌<◌, ◌+◌, ℕ, zero, suc, List, [], ◌∷◌, Bool, true, false, IsFalse}
-use Rattle.desk_base.specs.declared.span.Span.{Span}
-use Rattle.java_tree.specs.declared.kind.Kind.{Kind}
-use Rattle.java_tree.specs.declared.kind.Kind.TheVariants as k
-use Rattle.java_tree.specs.declared.token.Token.{Token}
-use Rattle.java_tree.specs.declared.expr.Expr.{Expr, out-Expr}
-use Rattle.java_tree.specs.declared.expr.Expr.TheOpen.{Expr-F}
-use Rattle.java_tree.specs.declared.expr.BinaryOp.{BinaryOp}
-use Rattle.java_tree.specs.declared.expr.BinaryOp.TheVariants as op
-use Rattle.java_phrases.specs.Texts.{smallest_digits, thread_name}
-use Rattle.java_phrases.specs.Phrase.{Phrase, ◌⨾◌, ◌⊢◌, ◌∣◌, Never, Mark, Sign, Spelled, Separated}
+use Rattle.java_phrases.specs.Tree.{Span, Kind, Kind as k, Token, Expr, out-Expr, Expr-F, BinaryOp, BinaryOp as op}
+use Rattle.java_phrases.specs.Common.{smallest_digits, thread_name, Phrase, ◌⨾◌, ◌⊢◌, ◌∣◌, Never, Mark, Sign, Spelled, Separated}
 
 -- ---- operators
 

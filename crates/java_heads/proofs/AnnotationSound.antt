@@ -3,19 +3,8 @@ use Rattle.std.proofs.Common.{◌≡◌, ℕ, zero, suc, ◌<◌, ◌≤◌, Boo
 use Rattle.std.specs.Str.{bytes_eq}
 use Rattle.std.proofs.lemmas.Slice.Eq.{bytes_eq-Decides}
 use Rattle.std.proofs.lemmas.List.{reverse-reverse, length-reverse, append-nil, map-append}
-use Rattle.desk_base.specs.declared.span.Span.{Span}
-use Rattle.java_tree.specs.declared.kind.Kind.TheVariants as k
-use Rattle.java_tree.specs.declared.token.Token.{Token}
-use Rattle.java_tree.specs.declared.token.Lexeme.{Lexeme}
-use Rattle.java_tree.specs.declared.member.Annot.{Annot}
-use Rattle.java_tree.specs.declared.member.AnnotLayer.{AnnotLayer}
-use Rattle.java_tree.specs.declared.member.InnerAnnot.{InnerAnnot}
-use Rattle.java_tree.specs.declared.member.Elements.{Elements}
-use Rattle.java_tree.specs.declared.member.Elements.TheVariants as elements
-use Rattle.java_tree.specs.declared.member.Elem.{Elem}
-use Rattle.java_tree.specs.declared.member.Elem.TheVariants as element
-use Rattle.java_phrases.specs.Phrase.{Phrase, Nothing, ◌⨾◌, Never, Mark, Sign, Spelled, Separated, Each}
-use Rattle.java_phrases.specs.Parser.{Found, and_then, pure, fail, sees, sign, word}
+use Rattle.java_phrases.specs.Tree.{Span, Kind as k, Token, Lexeme, Annot, AnnotLayer, InnerAnnot, Elements, Elements as elements, Elem, Elem as element}
+use Rattle.java_phrases.specs.Common.{Phrase, Nothing, ◌⨾◌, Never, Mark, Sign, Spelled, Separated, Each, Found, and_then, pure, fail, sees, sign, word}
 use Rattle.java_phrases.proofs.Phrases.{and_then-some, pure-is, sign-sound, word-sound, spent-nothing, not_longer}
 use Rattle.java_phrases.proofs.Turned.{reverse_push}
 use Rattle.java_heads.specs.declared.nest.Frame.{Frame}

@@ -1,28 +1,12 @@
 -- What reads as the heading of a member is spelled as one, and the reverse.
-use Rattle.std.proofs.Common.{◌≡◌, ◌≢◌, ℕ, Bool, true, false, cond, ◌&&◌, List, [], ◌∷◌, Option, Some, None, Result, Ok, Err, IfOk, refl, ap, ◌∙◌, sym, subst}
+use Rattle.std.proofs.Common.{◌≡◌, ℕ, Bool, true, false, cond, ◌&&◌, List, [], ◌∷◌, Option, Some, None, Result, IfOk, refl, ap, ◌∙◌, sym, subst}
 use Rattle.std.specs.Str.{bytes_eq}
 use Rattle.std.proofs.lemmas.Slice.Eq.{bytes_eq-Decides}
-use Rattle.desk_base.specs.declared.span.Span.{Span}
-use Rattle.java_tree.specs.declared.kind.Kind.{Kind}
-use Rattle.java_tree.specs.declared.kind.Kind.TheVariants as k
-use Rattle.java_tree.specs.declared.token.Token.{Token}
-use Rattle.java_tree.specs.declared.token.Lexeme.{Lexeme}
-use Rattle.java_tree.specs.declared.member.Mod.{Mod}
-use Rattle.java_tree.specs.declared.member.Mod.TheVariants as modifier
-use Rattle.java_tree.specs.declared.member.ModWord.{ModWord}
-use Rattle.java_tree.specs.declared.member.ModWord.TheVariants as w
-use Rattle.java_tree.specs.declared.member.Ty.{Ty}
-use Rattle.java_tree.specs.declared.member.Ty.TheVariants as tree
-use Rattle.java_tree.specs.declared.member.Param.{Param}
-use Rattle.java_tree.specs.declared.member.Init.{Init}
-use Rattle.java_phrases.specs.Phrase.{◌⨾◌, Mark, Sign, Spelled, Each, Named, Optional}
-use Rattle.java_phrases.specs.Parser.{Found, Lost, ◌>>=◌, pure, fail, next_kind, kind_at, same_kind, sees, sign, word}
-use Rattle.java_phrases.specs.Types.{TySpells, ty}
+use Rattle.java_phrases.specs.Tree.{Span, Kind, Kind as k, Token, Lexeme, Mod, Mod as modifier, ModWord, ModWord as w, Ty, Ty as tree, Param, Init}
+use Rattle.java_phrases.specs.Common.{◌⨾◌, Mark, Sign, Spelled, Each, Named, Optional, Found, ◌>>=◌, pure, fail, next_kind, kind_at, same_kind, sees, sign, word, TySpells, ty, ahead, Steps, Gives}
 use Rattle.java_phrases.specs.declared.error.SyntaxError.{SyntaxError}
-use Rattle.java_phrases.specs.declared.error.SyntaxError.TheVariants as error
 use Rattle.java_phrases.specs.declared.tokens.Tokens.{Tokens}
-use Rattle.java_phrases.specs.Cursor.{ahead, Steps}
-use Rattle.java_phrases.specs.Answers.{Gives}
+use Rattle.java_phrases.proofs.Answered.{gives, steps-found}
 use Rattle.java_phrases.proofs.Phrases.{and_then-some, pure-is, word-sound, word-complete, next-mark, next-word}
 use Rattle.java_phrases.proofs.TypeLaws.{ty-sound, ty-complete}
 use Rattle.java_heads.specs.declared.declaration.Declaration.TheVariants as of
@@ -165,12 +149,7 @@ heading-sound class ts rest o e =
 
 no_name : (word : ModWord) → same_kind (kind_of word) k.Name ≡ false
 no_name w.Public = refl
-no_name w.Protected = refl
-no_name w.Private = refl
-no_name w.Static = refl
-no_name w.Final = refl
-no_name w.Abstract = refl
-no_name w.Synchronized = refl
+no_name _ = refl
 
 -- a parameter's first two tokens are no name and bracket
 param-no_array : (mods : List Mod) (y : Ty) (name : Lexeme) (ts t1 t2 rest : List Token) → Each ModSpells mods ts t1 → TySpells y t1 t2 → Spelled k.Name name t2 rest → (stands k.Name 0 ts && stands k.LBracket 1 ts) ≡ false
@@ -340,19 +319,11 @@ heading-complete class (heading.Ctor h) ts rest s follows = ctor-complete class 
 heading-complete class (heading.Main h) ts rest s follows = main-complete class h ts rest s (body-ends rest follows)
 
 pub found_heading : (class : List ℕ) (old new : Tokens) (r : Result Heading SyntaxError) → Steps (member_heading class) old r new → IfOk r (λ h. HeadingSpells class h (ahead old) (ahead new))
-found_heading class old new (Ok h) (e, moved) = heading-sound class (ahead old) (ahead new) h e
-found_heading class old new (Err e) reads = tt
+found_heading class = steps-found (HeadingSpells class) (member_heading class) (heading-sound class)
 
 pub only_heading : (class : List ℕ) (old new : Tokens) (r : Result Heading SyntaxError) → Steps (member_heading class) old r new
     → (h : Heading) (rest : List Token) → HeadingSpells class h (ahead old) rest → BodyFollows h rest → Gives r (ahead new) h rest
-only_heading class old new (Ok x) (e, moved) h rest s follows =
-    let same : Found x (ahead new) ≡ Found h rest = sym e ∙ heading-complete class h (ahead old) rest s follows in
-    (cc, cc)
-only_heading class old new (Err error.NotSpelled) reads h rest s follows =
-    let other : error.NotSpelled ≢ error.OutOfMemory = λ e. cc in
-    let same : Lost ≡ Found h rest = sym (reads other) ∙ heading-complete class h (ahead old) rest s follows in
-    cc
-only_heading class old new (Err error.OutOfMemory) reads h rest s follows = refl
+only_heading class old new r reads h rest s follows = gives (member_heading class) old new r reads h rest (heading-complete class h (ahead old) rest s follows)
 
 pub one_heading : OneHeading
 one_heading class one other ts rest other_rest s follows s1 follows1 =

@@ -1,22 +1,11 @@
 -- What reads as a line or a header is spelled as one, and the reverse.
 use Rattle.std.proofs.Common.{◌≡◌, ℕ, Bool, true, false, cond, not, ◌&&◌, List, [], ◌∷◌, Option, Some, None, refl, ap, sym, subst}
 use Rattle.std.specs.Str.{bytes_eq}
-use Rattle.desk_base.specs.declared.span.Span.{Span}
-use Rattle.java_tree.specs.declared.kind.Kind.{Kind}
-use Rattle.java_tree.specs.declared.kind.Kind.TheVariants as k
-use Rattle.java_tree.specs.declared.token.Token.{Token}
-use Rattle.java_tree.specs.declared.token.Lexeme.{Lexeme}
-use Rattle.java_tree.specs.declared.member.Mod.{Mod}
-use Rattle.java_tree.specs.declared.file.Package.{Package}
-use Rattle.java_tree.specs.declared.file.Import.{Import}
-use Rattle.java_tree.specs.declared.file.TypeKind.{TypeKind}
-use Rattle.java_tree.specs.declared.file.TypeKind.TheVariants as sort
-use Rattle.java_phrases.specs.Phrase.{Mark, Sign, Spelled, Each, Optional}
-use Rattle.java_phrases.specs.Parser.{Found, ◌>>=◌, pure, fail, next_kind, kind_at, sees, sign, word}
+use Rattle.java_phrases.specs.Tree.{Span, Kind, Kind as k, Token, Lexeme, Mod, Package, Import, TypeKind, TypeKind as sort}
+use Rattle.java_phrases.specs.Common.{Mark, Sign, Spelled, Each, Optional, Found, ◌>>=◌, pure, fail, next_kind, kind_at, sees, sign, word, thread_name}
 use Rattle.java_phrases.proofs.Phrases.{and_then-some, pure-is, is_same, sign-sound, sign-complete, word-sound, word-complete, next-sign, next-mark}
 use Rattle.java_heads.specs.declared.header.Header.{Header}
 use Rattle.java_heads.specs.Annotation.{Joined}
-use Rattle.java_phrases.specs.Texts.{thread_name}
 use Rattle.java_heads.specs.Spelling.{ModSpells, PackageSpells, Star, ImportSpells, declared_as, type_word, Implements, IsFreeName, object_name, string_name, runnable_name, HeaderParts}
 use Rattle.java_heads.specs.Reading.{goes_on, qualified, all_modifiers, fits, package_line, perhaps_by, perhaps, star_by, star, import_line, type_kind_by, type_kind, is_free, type_name, some_interfaces, interfaces_by, class_interfaces, interfaces, header_of, type_header}
 use Rattle.java_heads.proofs.Lists.{spends-spelled, mark-sound, mark-complete, sees-kind, joined-sound, joined-complete}

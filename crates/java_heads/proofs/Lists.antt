@@ -1,12 +1,8 @@
 -- Lists whose items are read one after another, and the tokens that phrases take.
 use Rattle.std.proofs.Common.{◌≡◌, ℕ, zero, suc, ◌<◌, ◌≤◌, Bool, true, false, cond, List, [], ◌∷◌, ◌++◌, length, Some, refl, ap, ◌∙◌, sym, subst, arith, append_assoc}
 use Rattle.std.proofs.lemmas.List.{append-nil}
-use Rattle.desk_base.specs.declared.span.Span.{Span}
-use Rattle.java_tree.specs.declared.kind.Kind.{Kind}
-use Rattle.java_tree.specs.declared.token.Token.{Token}
-use Rattle.java_tree.specs.declared.token.Lexeme.{Lexeme}
-use Rattle.java_phrases.specs.Phrase.{Phrase, ◌⨾◌, Mark, Sign, Spelled, Each}
-use Rattle.java_phrases.specs.Parser.{Found, Parser, and_then, next_kind, same_kind, sees, sign, turns_from, turns}
+use Rattle.java_phrases.specs.Tree.{Span, Kind, Token, Lexeme}
+use Rattle.java_phrases.specs.Common.{Phrase, ◌⨾◌, Mark, Sign, Spelled, Each, Found, Parser, and_then, next_kind, same_kind, sees, sign, turns_from, turns}
 use Rattle.java_phrases.proofs.Phrases.{and_then-some, pure-is, sign-sound, sign-complete, mark-sign, sign-mark, sees-next, Spent, spent-nothing, spent-one, spent-then, not_longer}
 use Rattle.java_phrases.proofs.Loops.{turn_once, turn_ends}
 use Rattle.java_heads.specs.Annotation.{Joined}

@@ -2,24 +2,11 @@
 use Rattle.std.proofs.Common.{◌≡◌, ◌≢◌, ℕ, Bool, true, false, cond, List, [], Option, Some, None, refl, ap, ◌∙◌, sym, subst}
 use Rattle.std.specs.Str.{bytes_eq}
 use Rattle.std.proofs.lemmas.Slice.Eq.{bytes_eq-Decides}
-use Rattle.desk_base.specs.declared.span.Span.{Span}
-use Rattle.java_tree.specs.declared.kind.Kind.{Kind}
-use Rattle.java_tree.specs.declared.kind.Kind.TheVariants as k
-use Rattle.java_tree.specs.declared.token.Token.{Token}
-use Rattle.java_tree.specs.declared.token.Lexeme.{Lexeme}
-use Rattle.java_tree.specs.declared.member.Mod.{Mod}
-use Rattle.java_tree.specs.declared.member.Ty.{Ty}
-use Rattle.java_tree.specs.declared.member.Init.{Init}
-use Rattle.java_tree.specs.declared.member.Init.TheVariants as init
-use Rattle.java_tree.specs.declared.member.Field.{Field}
-use Rattle.java_tree.specs.declared.member.Sig.{Sig}
-use Rattle.java_phrases.specs.Phrase.{◌⨾◌, Mark, Sign, Spelled, word_of, Named}
-use Rattle.java_phrases.specs.Parser.{Found, and_then, pure, fail, next_kind, sees, sign, word}
-use Rattle.java_phrases.specs.Types.{ty}
+use Rattle.java_phrases.specs.Tree.{Span, Kind, Kind as k, Token, Lexeme, Mod, Ty, Init, Init as init, Field, Sig}
+use Rattle.java_phrases.specs.Common.{◌⨾◌, Mark, Sign, Spelled, word_of, Named, Found, and_then, pure, fail, next_kind, sees, sign, word, ty, smallest_digits}
 use Rattle.java_phrases.proofs.Phrases.{and_then-some, pure-is, sign-sound, sign-complete, word-sound, word-complete, next-sign, next-mark, next-word}
 use Rattle.java_phrases.proofs.TypeLaws.{ty-sound, ty-complete}
 use Rattle.java_heads.specs.declared.declaration.Declaration.TheVariants as of
-use Rattle.java_phrases.specs.Texts.{smallest_digits}
 use Rattle.java_heads.specs.Spelling.{object_name, InitSpells, InitPart, FieldParts, SigParts}
 use Rattle.java_heads.specs.Reading.{modifiers, parameters, throws, result_type, small, negative, named, new_object, initializer_by, initializer, init_by, init_part, field_end, field, signature}
 use Rattle.java_heads.proofs.Lists.{mark-sound, mark-complete, sees-kind}

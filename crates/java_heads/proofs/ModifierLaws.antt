@@ -1,15 +1,8 @@
 -- What reads as modifiers is spelled as them, and the reverse; and which words fit.
 use Rattle.std.proofs.Common.{◌≡◌, ℕ, zero, suc, ◌<◌, ◌≤◌, Bool, true, false, cond, not, ◌&&◌, ◌==◌, nat_le, List, [], ◌∷◌, length, Option, Some, None, refl, ◌∙◌, sym, subst, arith}
 use Rattle.std.proofs.lemmas.Bool.{leb-true, le-leb, eqb-true, eq-eqb}
-use Rattle.java_tree.specs.declared.kind.Kind.{Kind}
-use Rattle.java_tree.specs.declared.kind.Kind.TheVariants as k
-use Rattle.java_tree.specs.declared.token.Token.{Token}
-use Rattle.java_tree.specs.declared.member.Mod.{Mod}
-use Rattle.java_tree.specs.declared.member.Mod.TheVariants as modifier
-use Rattle.java_tree.specs.declared.member.ModWord.{ModWord}
-use Rattle.java_tree.specs.declared.member.ModWord.TheVariants as w
-use Rattle.java_phrases.specs.Phrase.{Each}
-use Rattle.java_phrases.specs.Parser.{Found, pure, fail, next_kind, same_kind, sees, sign}
+use Rattle.java_phrases.specs.Tree.{Kind, Kind as k, Token, Mod, Mod as modifier, ModWord, ModWord as w}
+use Rattle.java_phrases.specs.Common.{Each, Found, pure, fail, next_kind, same_kind, sees, sign}
 use Rattle.java_phrases.proofs.Phrases.{and_then-some, pure-is, sign-sound, sign-complete, next-sign}
 use Rattle.java_heads.specs.declared.declaration.Declaration.{Declaration}
 use Rattle.java_heads.specs.Modifiers.{kind_of, same_word, may_have, must_have, is_access, words_that, most, least, FitsAs}
@@ -31,12 +24,7 @@ record WordKind (word : ModWord) : Type 0 where
 
 word-kind : (word : ModWord) → WordKind word
 word-kind w.Public = record { back = refl; no_at = refl; no_call = refl; no_dot = refl; no_end = refl }
-word-kind w.Protected = record { back = refl; no_at = refl; no_call = refl; no_dot = refl; no_end = refl }
-word-kind w.Private = record { back = refl; no_at = refl; no_call = refl; no_dot = refl; no_end = refl }
-word-kind w.Static = record { back = refl; no_at = refl; no_call = refl; no_dot = refl; no_end = refl }
-word-kind w.Final = record { back = refl; no_at = refl; no_call = refl; no_dot = refl; no_end = refl }
-word-kind w.Abstract = record { back = refl; no_at = refl; no_call = refl; no_dot = refl; no_end = refl }
-word-kind w.Synchronized = record { back = refl; no_at = refl; no_call = refl; no_dot = refl; no_end = refl }
+word-kind _ = record { back = refl; no_at = refl; no_call = refl; no_dot = refl; no_end = refl }
 
 -- ---- one modifier
 
@@ -161,9 +149,6 @@ times-complete false true (suc n) low high = one-fit (suc n) false true (suc n =
 both : (a b : Bool) → (a && b) ≡ true → (a ≡ true) × (b ≡ true)
 both true b e = (refl, e)
 both false b e = cc
-
-and-on : (a b : Bool) → a ≡ true → b ≡ true → (a && b) ≡ true
-and-on a b e f = rw (e, f) refl
 
 record AllFit (declaration : Declaration) (mods : List Mod) : Type 0 where
   each : (word : ModWord) → word_fits declaration mods word ≡ true

@@ -1,11 +1,7 @@
 -- What reads as a qualified name is spelled as one, and the reverse.
 use Rattle.std.proofs.Common.{◌≡◌, ◌<◌, true, false, List, [], ◌∷◌, length, Some, refl}
-use Rattle.java_tree.specs.declared.kind.Kind.{Kind}
-use Rattle.java_tree.specs.declared.kind.Kind.TheVariants as k
-use Rattle.java_tree.specs.declared.token.Token.{Token}
-use Rattle.java_tree.specs.declared.token.Lexeme.{Lexeme}
-use Rattle.java_phrases.specs.Phrase.{Mark, Spelled}
-use Rattle.java_phrases.specs.Parser.{Found, next_kind, kind_at, same_kind, sees, word}
+use Rattle.java_phrases.specs.Tree.{Kind, Kind as k, Token, Lexeme}
+use Rattle.java_phrases.specs.Common.{Mark, Spelled, Found, next_kind, kind_at, same_kind, sees, word}
 use Rattle.java_phrases.proofs.Phrases.{and_then-some, word-sound, word-complete, next-word}
 use Rattle.java_heads.specs.Annotation.{Qualified}
 use Rattle.java_heads.specs.Reading.{after, goes_on, qualified}

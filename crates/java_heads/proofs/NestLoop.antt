@@ -1,7 +1,7 @@
 -- The loop over open annotations beside its count of turns.
 use Rattle.std.proofs.Common.{◌≡◌, ℕ, zero, suc, ◌<◌, true, false, List, length, refl, ◌∙◌, sym, arith}
-use Rattle.java_tree.specs.declared.token.Token.{Token}
-use Rattle.java_phrases.specs.Parser.{Found, Lost}
+use Rattle.java_phrases.specs.Tree.{Token}
+use Rattle.java_phrases.specs.Common.{Found, Lost}
 use Rattle.java_heads.specs.declared.nest.Nest.{Nest}
 use Rattle.java_heads.specs.Reading.{turn, is_whole, nested_from, nested}
 

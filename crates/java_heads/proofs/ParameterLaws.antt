@@ -1,16 +1,8 @@
 -- What reads as parameters, results and throws is spelled as them, and the reverse.
 use Rattle.std.proofs.Common.{◌≡◌, ◌<◌, Bool, true, false, cond, nat_le, List, [], ◌∷◌, length, Option, Some, None, refl, ◌∙◌, sym, subst}
 use Rattle.std.proofs.lemmas.Bool.{leb-true, le-leb}
-use Rattle.java_tree.specs.declared.kind.Kind.{Kind}
-use Rattle.java_tree.specs.declared.kind.Kind.TheVariants as k
-use Rattle.java_tree.specs.declared.token.Token.{Token}
-use Rattle.java_tree.specs.declared.token.Lexeme.{Lexeme}
-use Rattle.java_tree.specs.declared.member.Ty.{Ty}
-use Rattle.java_tree.specs.declared.member.Ty.TheVariants as tree
-use Rattle.java_tree.specs.declared.member.Param.{Param}
-use Rattle.java_phrases.specs.Phrase.{Phrase, ◌⨾◌, Mark, Spelled, Separated, Each}
-use Rattle.java_phrases.specs.Parser.{Found, pure, fail, next_kind, same_kind, sees, sign, word}
-use Rattle.java_phrases.specs.Types.{TySpells, ty}
+use Rattle.java_phrases.specs.Tree.{Kind, Kind as k, Token, Lexeme, Ty, Ty as tree, Param}
+use Rattle.java_phrases.specs.Common.{Phrase, ◌⨾◌, Mark, Spelled, Separated, Each, Found, pure, fail, next_kind, same_kind, sees, sign, word, TySpells, ty}
 use Rattle.java_phrases.proofs.Phrases.{and_then-some, pure-is, word-sound, word-complete, next-sign, next-mark, next-word}
 use Rattle.java_phrases.proofs.TypeLaws.{ty-sound, ty-complete}
 use Rattle.java_heads.specs.declared.declaration.Declaration.TheVariants as of
@@ -161,11 +153,6 @@ unfolding throws
 throws-complete [] ts rest s after = let P : List Token → Type 0 = λ l. throws l ≡ Found [] rest in subst P (sym s) (rw after.none refl)
 throws-complete (name ∷ names) ts rest (mid, s1, s) after =
     rw (sees-kind k.Throws k.Throws ts (next-mark k.Throws ts mid s1)) (some_throws-complete name names ts mid rest s1 s after.comma after.dot)
-
--- a sign behind throws stands behind the parameters too
-pub throws-first : (y : List (List Lexeme)) (ts rest : List Token) → Throws y ts rest → sees k.LBracket rest ≡ false → sees k.LBracket ts ≡ false
-throws-first [] ts rest s off = let P : List Token → Type 0 = λ l. sees k.LBracket l ≡ false in subst P (sym s) off
-throws-first (name ∷ names) ts rest (mid, s1, s) off = sees-kind k.LBracket k.Throws ts (next-mark k.Throws ts mid s1)
 
 -- ---- results
 

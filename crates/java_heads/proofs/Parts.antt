@@ -1,14 +1,10 @@
 -- A part of a file whose tree keeps its tokens.
 use Rattle.std.proofs.Common.{◌≡◌, ◌≢◌, List, [], ◌++◌, reverse, Result, Ok, Err, IfOk, refl, ap, ◌∙◌, sym, subst}
 use Rattle.std.proofs.lemmas.List.{append_cancel_right}
-use Rattle.java_tree.specs.declared.token.Token.{Token}
-use Rattle.java_phrases.specs.Phrase.{Phrase}
-use Rattle.java_phrases.specs.declared.error.SyntaxError.{SyntaxError}
-use Rattle.java_phrases.specs.declared.error.SyntaxError.TheVariants as error
+use Rattle.java_phrases.specs.Tree.{Token}
+use Rattle.java_phrases.specs.Common.{Phrase, ahead, from_start, Found, Lost, Parser, Gives}
+use Rattle.java_phrases.specs.declared.error.SyntaxError.{SyntaxError, SyntaxError as error}
 use Rattle.java_phrases.specs.declared.tokens.Tokens.{Tokens}
-use Rattle.java_phrases.specs.Cursor.{ahead, from_start, Steps}
-use Rattle.java_phrases.specs.Parser.{Found, Lost, Parser}
-use Rattle.java_phrases.specs.Answers.{Gives}
 use Rattle.java_heads.specs.Answers.{ReadsKept}
 
 -- The phrase and its reader leave the tokens out.
@@ -50,9 +46,6 @@ takes {A} p with_tokens old before end new bare x tokens same none e moved after
     let start : from_start before ≡ ahead before = ap (λ l. l ++ ahead before) none in
     (bare, tokens, ap p (sym a) ∙ e ∙ ap (λ l. Found bare l) (sym b), is, ap (λ l. l ++ ahead new) kept ∙ ap (λ l. end.taken ++ l) b ∙ moved ∙ start ∙ a)
 
-pub loses : {A : Type 0} (p : Parser A) (old before : Tokens) → before.stack ≡ old.stack → p (ahead before) ≡ Lost → p (ahead old) ≡ Lost
-loses p old before same e = ap p (sym (ahead-same before old same)) ∙ e
-
 module _ {A : Type 0} (P : A → Phrase) (p : Parser A) (tokens_of : A → List Token) (with_tokens : List Token → A → A) (part : IsPart P p tokens_of with_tokens) where
   pub takes-found : (ts rest : List Token) (r : Result A SyntaxError) → ReadsKept p with_tokens ts r rest → IfOk r (λ x. P x ts rest × (ts ≡ tokens_of x ++ rest))
   takes-found ts rest (Ok x) (bare, tokens, e, is, kept) =
@@ -69,20 +62,6 @@ module _ {A : Type 0} (P : A → Phrase) (p : Parser A) (tokens_of : A → List 
       absurd (part-lost P p tokens_of with_tokens part ts (reads other) y rest s)
   takes-only ts after (Err error.OutOfMemory) reads y rest s = refl
 
--- a part that keeps no tokens
-module _ {A : Type 0} (P : A → Phrase) (p : Parser A) (sound : (ts rest : List Token) (x : A) → p ts ≡ Found x rest → P x ts rest) (complete : (x : A) (ts rest : List Token) → P x ts rest → p ts ≡ Found x rest) where
-  pub steps-found : (old new : Tokens) (r : Result A SyntaxError) → Steps p old r new → IfOk r (λ x. P x (ahead old) (ahead new))
-  steps-found old new (Ok x) (e, moved) = sound (ahead old) (ahead new) x e
-  steps-found old new (Err e) reads = tt
-
-  pub steps-only : (old new : Tokens) (r : Result A SyntaxError) → Steps p old r new → (y : A) (rest : List Token) → P y (ahead old) rest → Gives r (ahead new) y rest
-  steps-only old new (Ok x) (e, moved) y rest s = let same : Found x (ahead new) ≡ Found y rest = sym e ∙ complete y (ahead old) rest s in (cc, cc)
-  steps-only old new (Err error.NotSpelled) reads y rest s =
-      let other : error.NotSpelled ≢ error.OutOfMemory = λ e. cc in
-      let same : Lost ≡ Found y rest = sym (reads other) ∙ complete y (ahead old) rest s in
-      cc
-  steps-only old new (Err error.OutOfMemory) reads y rest s = refl
-
 -- ---- tokens begin with one part at most
 
 pub one-kept : {A : Type 0} (P : A → Phrase) (p : Parser A) (tokens_of : A → List Token) (with_tokens : List Token → A → A) → IsPart P p tokens_of with_tokens → (one other : A) (ts rest other_rest : List Token)
@@ -90,6 +69,3 @@ pub one-kept : {A : Type 0} (P : A → Phrase) (p : Parser A) (tokens_of : A →
 one-kept P p tokens_of with_tokens part one other ts rest other_rest (s, of_one) (s1, of_other) =
     let (same, ends) = part-only P p tokens_of with_tokens part ts rest (tokens_of one) (with_tokens [] one) (part.complete one ts rest s) (sym of_one) other other_rest s1 of_other in
     (sym (part.own one) ∙ sym (part.again (tokens_of one) [] one) ∙ same, ends)
-
-pub one-found : {A : Type 0} (P : A → Phrase) (p : Parser A) → ((x : A) (ts rest : List Token) → P x ts rest → p ts ≡ Found x rest) → (one other : A) (ts rest other_rest : List Token) → P one ts rest → P other ts other_rest → (one ≡ other) × (rest ≡ other_rest)
-one-found P p complete one other ts rest other_rest s s1 = let same : Found one rest ≡ Found other other_rest = sym (complete one ts rest s) ∙ complete other ts other_rest s1 in (cc, cc)

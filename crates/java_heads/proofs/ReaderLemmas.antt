@@ -1,19 +1,13 @@
 -- What the public calls find, and that they find all that is spelled.
 use Rattle.std.proofs.Common.{◌≡◌, ◌≢◌, List, [], ◌++◌, Result, Ok, Err, IfOk, refl, ap, ◌∙◌, sym, subst}
 use Rattle.std.proofs.lemmas.List.{append_cancel_right}
-use Rattle.java_tree.specs.declared.kind.Kind.TheVariants as k
-use Rattle.java_tree.specs.declared.token.Token.{Token}
-use Rattle.java_tree.specs.declared.member.Field.{Field}
-use Rattle.java_tree.specs.declared.member.Sig.{Sig}
-use Rattle.java_phrases.specs.declared.error.SyntaxError.{SyntaxError}
-use Rattle.java_phrases.specs.declared.error.SyntaxError.TheVariants as error
-use Rattle.java_phrases.specs.Phrase.{Mark}
-use Rattle.java_phrases.specs.Parser.{Found, Lost, ◌>>◌, sign}
+use Rattle.java_phrases.specs.Tree.{Kind as k, Token, Field, Sig}
+use Rattle.java_phrases.specs.Common.{Mark, Found, Lost, ◌>>◌, sign, Gives}
+use Rattle.java_phrases.specs.declared.error.SyntaxError.{SyntaxError, SyntaxError as error}
 use Rattle.java_phrases.proofs.Phrases.{and_then-some, pure-is}
 use Rattle.java_heads.specs.declared.header.Header.{Header}
 use Rattle.java_heads.specs.Spelling.{FieldParts, SigParts, HeaderParts, HeaderSpells}
 use Rattle.java_heads.specs.Reading.{field, signature, type_header, brace}
-use Rattle.java_phrases.specs.Answers.{Gives}
 use Rattle.java_heads.specs.Answers.{ReadsHeader, field_with, sig_with, header_with}
 use Rattle.java_heads.proofs.Lists.{mark-sound, mark-complete}
 use Rattle.java_heads.proofs.MemberLaws.{field-sound, field-complete, signature-sound, signature-complete}

@@ -1,17 +1,8 @@
 -- Which tokens spell which qualified name and annotation (JLS 8, 6.5, 9.7, as far as the subset goes).
 use Rattle.std.specs.Prelude.{◌≡◌, ℕ, zero, suc, List, [], ◌∷◌, ◌++◌, Option, Some, None, map, codes}
 use Rattle.std.specs.List.{flat_map}
-use Rattle.java_tree.specs.declared.kind.Kind.{Kind}
-use Rattle.java_tree.specs.declared.kind.Kind.TheVariants as k
-use Rattle.java_tree.specs.declared.token.Lexeme.{Lexeme}
-use Rattle.java_tree.specs.declared.member.Annot.{Annot}
-use Rattle.java_tree.specs.declared.member.AnnotLayer.{AnnotLayer}
-use Rattle.java_tree.specs.declared.member.InnerAnnot.{InnerAnnot}
-use Rattle.java_tree.specs.declared.member.Elements.{Elements}
-use Rattle.java_tree.specs.declared.member.Elements.TheVariants as elements
-use Rattle.java_tree.specs.declared.member.Elem.{Elem}
-use Rattle.java_tree.specs.declared.member.Elem.TheVariants as element
-use Rattle.java_phrases.specs.Phrase.{Phrase, Nothing, ◌⨾◌, ◌⊢◌, Never, Mark, Sign, Spelled, Separated, Each}
+use Rattle.java_phrases.specs.Tree.{Kind, Kind as k, Lexeme, Annot, AnnotLayer, InnerAnnot, Elements, Elements as elements, Elem, Elem as element}
+use Rattle.java_phrases.specs.Common.{Phrase, Nothing, ◌⨾◌, ◌⊢◌, Never, Mark, Sign, Spelled, Separated, Each}
 
 -- item {sign item}
 abbrev pub Joined : {A : Type 0} → Kind → (A → Phrase) → List A → Phrase

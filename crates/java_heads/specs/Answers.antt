@@ -1,11 +1,8 @@
 -- What the calls that read a part of a file answer.
 use Rattle.std.specs.Prelude.{◌≡◌, ◌≢◌, List, ◌++◌, Result, Ok, Err}
-use Rattle.java_tree.specs.declared.token.Token.{Token}
-use Rattle.java_tree.specs.declared.member.Field.{Field}
-use Rattle.java_tree.specs.declared.member.Sig.{Sig}
-use Rattle.java_phrases.specs.declared.error.SyntaxError.{SyntaxError}
-use Rattle.java_phrases.specs.declared.error.SyntaxError.TheVariants as error
-use Rattle.java_phrases.specs.Parser.{Found, Lost, Parser, ◌>>◌}
+use Rattle.java_phrases.specs.Tree.{Token, Field, Sig}
+use Rattle.java_phrases.specs.Common.{Found, Lost, Parser, ◌>>◌}
+use Rattle.java_phrases.specs.declared.error.SyntaxError.{SyntaxError, SyntaxError as error}
 use Rattle.java_heads.specs.declared.header.Header.{Header}
 use Rattle.java_heads.specs.Reading.{type_header, brace}
 

@@ -3,14 +3,8 @@
 use Rattle.std.specs.Prelude.{ℕ, Bool, true, false, ◌&&◌, if◌then◌else◌, List, Option, Some, None}
 use Rattle.std.specs.Option.{option_map_or}
 use Rattle.std.specs.Str.{bytes_eq}
-use Rattle.java_tree.specs.declared.kind.Kind.{Kind}
-use Rattle.java_tree.specs.declared.kind.Kind.TheVariants as k
-use Rattle.java_tree.specs.declared.token.Token.{Token}
-use Rattle.java_tree.specs.declared.token.Lexeme.{Lexeme}
-use Rattle.java_tree.specs.declared.member.Mod.{Mod}
-use Rattle.java_tree.specs.declared.member.Ty.{Ty}
-use Rattle.java_phrases.specs.Parser.{Found, Parser, ◌>>=◌, ◌>>◌, pure, fail, same_kind, kind_at, look, sign, word}
-use Rattle.java_phrases.specs.Types.{ty}
+use Rattle.java_phrases.specs.Tree.{Kind, Kind as k, Token, Lexeme, Mod, Ty}
+use Rattle.java_phrases.specs.Common.{Found, Parser, ◌>>=◌, ◌>>◌, pure, fail, same_kind, kind_at, look, sign, word, ty}
 use Rattle.java_heads.specs.declared.declaration.Declaration.TheVariants as of
 use Rattle.java_heads.specs.Spelling.{string_name}
 use Rattle.java_heads.specs.Reading.{all_modifiers, fits, parameters, throws, perhaps, named, field_end}

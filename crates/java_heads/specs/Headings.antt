@@ -1,10 +1,8 @@
 -- Which tokens spell which heading of a member, which is the member up to its body (JLS 8, 8.4, 8.8,
 -- 12.1.4, as far as the subset goes).
 use Rattle.std.specs.Prelude.{◌≡◌, ℕ, List, [], Some, codes}
-use Rattle.java_tree.specs.declared.kind.Kind.TheVariants as k
-use Rattle.java_tree.specs.declared.token.Token.{Token}
-use Rattle.java_phrases.specs.Phrase.{Phrase, ◌⨾◌, ◌⊢◌, Mark, Sign, Spelled, Named, Optional}
-use Rattle.java_phrases.specs.Parser.{next_kind}
+use Rattle.java_phrases.specs.Tree.{Kind as k, Token}
+use Rattle.java_phrases.specs.Common.{Phrase, ◌⨾◌, ◌⊢◌, Mark, Sign, Spelled, Named, Optional, next_kind}
 use Rattle.java_heads.specs.declared.declaration.Declaration.TheVariants as of
 use Rattle.java_heads.specs.declared.heading.Heading.{Heading}
 use Rattle.java_heads.specs.declared.heading.Heading.TheVariants as heading

@@ -3,12 +3,7 @@
 use Rattle.std.specs.Prelude.{◌≤◌, ℕ, Bool, true, false, if◌then◌else◌, List, count_by}
 use denote.Enum.Bare.{sameb}
 use Rattle.java_tree.specs.contracts.member.ModWord.{the_type}
-use Rattle.java_tree.specs.declared.kind.Kind.{Kind}
-use Rattle.java_tree.specs.declared.kind.Kind.TheVariants as k
-use Rattle.java_tree.specs.declared.member.Mod.{Mod}
-use Rattle.java_tree.specs.declared.member.Mod.TheVariants as modifier
-use Rattle.java_tree.specs.declared.member.ModWord.{ModWord}
-use Rattle.java_tree.specs.declared.member.ModWord.TheVariants as w
+use Rattle.java_phrases.specs.Tree.{Kind, Kind as k, Mod, Mod as modifier, ModWord, ModWord as w}
 use Rattle.java_heads.specs.declared.declaration.Declaration.{Declaration}
 use Rattle.java_heads.specs.declared.declaration.Declaration.TheVariants as of
 

@@ -2,34 +2,8 @@
 -- answers. That this is the spelling, both ways, is what the public clauses say.
 use Rattle.std.specs.Prelude.{ℕ, zero, suc, ◌==◌, nat_le, ◌&&◌, ◌||◌, Bool, true, false, not, if◌then◌else◌, List, [], ◌∷◌, ◌++◌, length, reverse, Option, Some, None, is_some}
 use Rattle.std.specs.Str.{bytes_eq}
-use Rattle.desk_base.specs.declared.span.Span.{Span}
-use Rattle.java_tree.specs.declared.kind.Kind.{Kind}
-use Rattle.java_tree.specs.declared.kind.Kind.TheVariants as k
-use Rattle.java_tree.specs.declared.token.Token.{Token}
-use Rattle.java_tree.specs.declared.token.Lexeme.{Lexeme}
-use Rattle.java_tree.specs.declared.member.Annot.{Annot}
-use Rattle.java_tree.specs.declared.member.AnnotLayer.{AnnotLayer}
-use Rattle.java_tree.specs.declared.member.InnerAnnot.{InnerAnnot}
-use Rattle.java_tree.specs.declared.member.Elements.{Elements}
-use Rattle.java_tree.specs.declared.member.Elements.TheVariants as elements
-use Rattle.java_tree.specs.declared.member.Elem.{Elem}
-use Rattle.java_tree.specs.declared.member.Elem.TheVariants as element
-use Rattle.java_tree.specs.declared.member.Mod.{Mod}
-use Rattle.java_tree.specs.declared.member.Mod.TheVariants as modifier
-use Rattle.java_tree.specs.declared.member.ModWord.{ModWord}
-use Rattle.java_tree.specs.declared.member.ModWord.TheVariants as w
-use Rattle.java_tree.specs.declared.member.Ty.{Ty}
-use Rattle.java_tree.specs.declared.member.Param.{Param}
-use Rattle.java_tree.specs.declared.member.Init.{Init}
-use Rattle.java_tree.specs.declared.member.Init.TheVariants as init
-use Rattle.java_tree.specs.declared.member.Field.{Field}
-use Rattle.java_tree.specs.declared.member.Sig.{Sig}
-use Rattle.java_tree.specs.declared.file.Package.{Package}
-use Rattle.java_tree.specs.declared.file.Import.{Import}
-use Rattle.java_tree.specs.declared.file.TypeKind.{TypeKind}
-use Rattle.java_tree.specs.declared.file.TypeKind.TheVariants as sort
-use Rattle.java_phrases.specs.Parser.{Found, Lost, Parser, ◌>>=◌, ◌>>◌, pure, fail, next_kind, kind_at, peek, look, sees, sign, word, turns}
-use Rattle.java_phrases.specs.Types.{ty}
+use Rattle.java_phrases.specs.Tree.{Span, Kind, Kind as k, Token, Lexeme, Annot, AnnotLayer, InnerAnnot, Elements, Elements as elements, Elem, Elem as element, Mod, Mod as modifier, ModWord, ModWord as w, Ty, Param, Init, Init as init, Field, Sig, Package, Import, TypeKind, TypeKind as sort}
+use Rattle.java_phrases.specs.Common.{Found, Lost, Parser, ◌>>=◌, ◌>>◌, pure, fail, next_kind, kind_at, peek, look, sees, sign, word, turns, ty, smallest_digits, thread_name}
 use Rattle.java_heads.specs.declared.declaration.Declaration.{Declaration}
 use Rattle.java_heads.specs.declared.declaration.Declaration.TheVariants as of
 use Rattle.java_heads.specs.declared.header.Header.{Header}
@@ -39,7 +13,6 @@ use Rattle.java_heads.specs.declared.nest.Opened.TheVariants as opened
 use Rattle.java_heads.specs.declared.nest.Nest.{Nest}
 use Rattle.java_heads.specs.Modifiers.{may_have, must_have, same_word, is_access, words_that, kind_of}
 use Rattle.java_heads.specs.Annotation.{value_name, inner_annot}
-use Rattle.java_phrases.specs.Texts.{smallest_digits, thread_name}
 use Rattle.java_heads.specs.Spelling.{object_name, string_name, runnable_name, declared_as}
 
 -- ---- lists

@@ -1,26 +1,8 @@
 -- Which tokens spell which part of a file, as far as no statement stands in it: one definition for
 -- each production (JLS 8, 7.3 to 7.5, 8.1, 8.3, 8.4, 9.1, 9.4, as far as the subset goes).
 use Rattle.std.specs.Prelude.{◌≡◌, ◌≢◌, ◌≤◌, ℕ, List, [], ◌∷◌, ◌++◌, length, Option, Some, None, codes}
-use Rattle.desk_base.specs.declared.span.Span.{Span}
-use Rattle.java_tree.specs.declared.kind.Kind.{Kind}
-use Rattle.java_tree.specs.declared.kind.Kind.TheVariants as k
-use Rattle.java_tree.specs.declared.token.Token.{Token}
-use Rattle.java_tree.specs.declared.token.Lexeme.{Lexeme}
-use Rattle.java_tree.specs.declared.member.Mod.{Mod}
-use Rattle.java_tree.specs.declared.member.Mod.TheVariants as modifier
-use Rattle.java_tree.specs.declared.member.Ty.{Ty}
-use Rattle.java_tree.specs.declared.member.Param.{Param}
-use Rattle.java_tree.specs.declared.member.Init.{Init}
-use Rattle.java_tree.specs.declared.member.Init.TheVariants as init
-use Rattle.java_tree.specs.declared.member.Field.{Field}
-use Rattle.java_tree.specs.declared.member.Sig.{Sig}
-use Rattle.java_tree.specs.declared.file.Package.{Package}
-use Rattle.java_tree.specs.declared.file.Import.{Import}
-use Rattle.java_tree.specs.declared.file.TypeKind.{TypeKind}
-use Rattle.java_tree.specs.declared.file.TypeKind.TheVariants as sort
-use Rattle.java_phrases.specs.Phrase.{Phrase, Nothing, ◌⨾◌, ◌⊢◌, Never, Mark, Sign, Spelled, Named, Optional, Separated, Each}
-use Rattle.java_phrases.specs.Texts.{smallest_digits, thread_name}
-use Rattle.java_phrases.specs.Types.{TySpells}
+use Rattle.java_phrases.specs.Tree.{Span, Kind, Kind as k, Token, Lexeme, Mod, Mod as modifier, Ty, Param, Init, Init as init, Field, Sig, Package, Import, TypeKind, TypeKind as sort}
+use Rattle.java_phrases.specs.Common.{Phrase, Nothing, ◌⨾◌, ◌⊢◌, Never, Mark, Sign, Spelled, Named, Optional, Separated, Each, smallest_digits, thread_name, TySpells}
 use Rattle.java_heads.specs.declared.declaration.Declaration.{Declaration}
 use Rattle.java_heads.specs.declared.declaration.Declaration.TheVariants as of
 use Rattle.java_heads.specs.declared.header.Header.{Header}

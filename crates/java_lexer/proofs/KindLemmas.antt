@@ -10,7 +10,7 @@ use Rattle.java_tree.specs.declared.kind.Kind.{Kind}
 use Rattle.java_tree.specs.declared.kind.Kind.TheVariants as kind
 use Rattle.java_lexer.specs.Chars.{is_name_part}
 use Rattle.java_lexer.specs.Spelling.{spelling}
-use Rattle.java_lexer.specs.Words.{Table, lookup, pick, tables, words_from}
+use Rattle.java_lexer.specs.Words.{Table, lookup, words}
 use Rattle.java_lexer.specs.Scan.{choose, before_equals, twice, single, double_sign, single_sign}
 use Rattle.java_lexer.specs.Lumps.{IsBlank, IsComment, IsOpenComment, IsRun, IsString, IsInt, has_close}
 use Rattle.java_lexer.specs.Lexing.{Spells, IsGap, IsNothing}
@@ -26,11 +26,11 @@ sign_of (b ∷ c ∷ d ∷ rest) = None
 
 pub fixed_of : List ℕ → Option Kind
 fixed_of [] = None
-fixed_of (b ∷ rest) = cond (is_name_part b) (lookup (words_from b) (b ∷ rest)) (sign_of (b ∷ rest))
+fixed_of (b ∷ rest) = cond (is_name_part b) (lookup words (b ∷ rest)) (sign_of (b ∷ rest))
 
 -- what has a spelling is found by it
 pub known : (k : Kind) → (spelling k ≡ []) ⊎ (fixed_of (spelling k) ≡ Some k)
-unfolding fixed_of sign_of words_from double_sign single_sign
+unfolding fixed_of sign_of words double_sign single_sign
 known kind.Name = inl refl
 known kind.IntLiteral = inl refl
 known kind.StrLiteral = inl refl
@@ -43,12 +43,9 @@ abbrev pub AreSpelled : Table → Type 0
 AreSpelled [] = Unit {0}
 AreSpelled (e ∷ es) = (e.0 ≡ spelling e.1) × AreSpelled es
 
-abbrev pub AllSpelled : List (ℕ × Table) → Type 0
-AllSpelled [] = Unit {0}
-AllSpelled (t ∷ ts) = AreSpelled t.1 × AllSpelled ts
-
-tables_spelled : AllSpelled tables
-tables_spelled = search rules
+words_spelled : AreSpelled words
+unfolding words
+words_spelled = search rules
 
 lookup_spelled : (t : Table) → AreSpelled t → (word : List ℕ) (k : Kind) → lookup t word ≡ Some k → word ≡ spelling k
 lookup_spelled [] h word k e = cc
@@ -57,13 +54,8 @@ lookup_spelled (x ∷ t) h word k e = elim (chosen (bytes_eq x.0 word) (Some x.1
   | inr y ↦ lookup_spelled t h.1 word k y.1
 ]
 
-picked : (ts : List (ℕ × Table)) → AllSpelled ts → (b : ℕ) → AreSpelled (pick ts b)
-picked [] h b = tt
-picked (t ∷ ts) h b = elim (cases_Bool (b == t.0)) [ inl e ↦ rw e h.0 | inr e ↦ rw e (picked ts h.1 b) ]
-
-pub word_spelled : (b : ℕ) (word : List ℕ) (k : Kind) → lookup (words_from b) word ≡ Some k → word ≡ spelling k
-unfolding words_from
-word_spelled b word k e = lookup_spelled (pick tables b) (picked tables tables_spelled b) word k e
+pub word_spelled : (word : List ℕ) (k : Kind) → lookup words word ≡ Some k → word ≡ spelling k
+word_spelled word k e = lookup_spelled words words_spelled word k e
 
 abbrev pub AreChosen : (ℕ → List ℕ) → List (ℕ × Kind) → Type 0
 AreChosen bytes [] = Unit {0}
@@ -105,7 +97,7 @@ pub kind_of : List ℕ → Option Kind
 kind_of [] = None
 kind_of (b ∷ rest) =
     cond (b == 34) (Some kind.StrLiteral) (cond (is_ascii_digit b) (Some kind.IntLiteral)
-    (cond (is_name_part b) (Some (unwrap_or (lookup (words_from b) (b ∷ rest)) kind.Name)) (sign_of (b ∷ rest))))
+    (cond (is_name_part b) (Some (unwrap_or (lookup words (b ∷ rest)) kind.Name)) (sign_of (b ∷ rest))))
 
 not_quote : (b : ℕ) → is_name_part b ≡ true → (b == 34) ≡ false
 not_quote b h = elim (cases_Bool (b == 34)) [
@@ -129,7 +121,7 @@ named [] run digit none = absurd run
 named (b ∷ rest) run digit none =
     let name : is_name_part b ≡ true = (and_parts (is_name_part b) (list_all is_name_part rest) run).0 in
     let quote = not_quote b name in
-    rw (quote, name, digit) (ap (λ (k : Kind). Some k) (no_word (lookup (words_from b) (b ∷ rest)) (λ k e. none k (word_spelled b (b ∷ rest) k e))))
+    rw (quote, name, digit) (ap (λ (k : Kind). Some k) (no_word (lookup words (b ∷ rest)) (λ k e. none k (word_spelled (b ∷ rest) k e))))
 
 whole : (bytes : List ℕ) → IsInt bytes → kind_of bytes ≡ Some kind.IntLiteral
 unfolding kind_of
@@ -144,7 +136,7 @@ unfolding kind_of
 quoted bytes h = rw h.1 refl
 
 pub spells_kind : (k : Kind) (bytes : List ℕ) → Spells k bytes → kind_of bytes ≡ Some k
-unfolding kind_of fixed_of sign_of words_from double_sign single_sign
+unfolding kind_of fixed_of sign_of words double_sign single_sign
 spells_kind kind.Name bytes h = named bytes h.0 h.1 h.2
 spells_kind kind.IntLiteral bytes h = whole bytes h
 spells_kind kind.StrLiteral bytes h = quoted bytes h
@@ -229,7 +221,7 @@ spelled_fixed kind.IntLiteral bytes h some = absurd (some h)
 spelled_fixed kind.StrLiteral bytes h some = absurd (some h)
 spelled_fixed k bytes h some = h
 
-fixed_word : (b : ℕ) (rest : List ℕ) → is_name_part b ≡ true → fixed_of (b ∷ rest) ≡ lookup (words_from b) (b ∷ rest)
+fixed_word : (b : ℕ) (rest : List ℕ) → is_name_part b ≡ true → fixed_of (b ∷ rest) ≡ lookup words (b ∷ rest)
 unfolding fixed_of
 fixed_word b rest name = rw name refl
 
@@ -243,8 +235,8 @@ sign_found b rest k name h = elim (known k) [
   | inr is ↦ sym (fixed_sign b rest name) ∙ ap fixed_of h ∙ is
 ]
 
--- a run that is found in no table is no kind's spelling
-pub word_unknown : (bytes : List ℕ) → IsRun bytes → lookup (words_from (slice_index bytes 0)) bytes ≡ None → (word : Kind) → bytes ≢ spelling word
+-- a run that is not in the table is no kind's spelling
+pub word_unknown : (bytes : List ℕ) → IsRun bytes → lookup words bytes ≡ None → (word : Kind) → bytes ≢ spelling word
 word_unknown [] run none word h = absurd run
 word_unknown (b ∷ rest) run none word h =
     let name : is_name_part b ≡ true = (and_parts (is_name_part b) (list_all is_name_part rest) run).0 in

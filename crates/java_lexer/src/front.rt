@@ -11,7 +11,7 @@ use crate::scan::{
     byte, close_len, first_escape, is_blank, is_int, is_name_part, line_len, run_len, string_len,
 };
 use crate::signs::{double_sign, single_sign};
-use crate::words::{lookup, words_from};
+use crate::words::word_kind;
 use java_tree::Kind;
 
 /// The longest piece at the front of a text: a blank or a comment, or a token, of so many bytes; or
@@ -51,7 +51,7 @@ fn run(text: &[u8]) -> Front
     let len = run_len(text);
     let run = &text[..len];
     if !byte(run, 0).is_ascii_digit() {
-        Front::Token(word_kind(run), len)
+        Front::Token(kind_of_run(run), len)
     } else if is_int(run) {
         Front::Token(Kind::IntLiteral, len)
     } else {
@@ -60,12 +60,12 @@ fn run(text: &[u8]) -> Front
 }
 
 /// The kind of a reserved word or a name.
-fn word_kind(run: &[u8]) -> Kind
+fn kind_of_run(run: &[u8]) -> Kind
     requires run { IsRun run.now }
     requires first { is_ascii_digit (slice_index run.now 0) ≡ false }
     ensures { Spells result run.now }
 {
-    match lookup(words_from(byte(run, 0)), run) {
+    match word_kind(run) {
         Some(word) => word,
         None => Kind::Name,
     }

@@ -1,18 +1,11 @@
 -- A member is spelled where its heading is read and its body completes it, and the reverse.
 use Rattle.std.proofs.Common.{◌≡◌, ◌≢◌, ℕ, zero, suc, List, [], ◌++◌, Some, Result, Ok, Err, IfOk, refl, ap, ◌∙◌, sym, subst}
 use Rattle.std.proofs.lemmas.List.{append_cancel_right}
-use Rattle.java_tree.specs.declared.kind.Kind.TheVariants as k
-use Rattle.java_tree.specs.declared.token.Token.{Token}
-use Rattle.java_tree.specs.declared.stmt.Block.{Block, out-Block}
-use Rattle.java_tree.specs.declared.member.MemberTree.{MemberTree}
-use Rattle.java_tree.specs.declared.member.MemberTree.TheVariants as member
-use Rattle.java_phrases.specs.declared.error.SyntaxError.{SyntaxError}
-use Rattle.java_phrases.specs.declared.error.SyntaxError.TheVariants as error
+use Rattle.java_phrases.specs.Tree.{Kind as k, Token, Block, out-Block, MemberTree, MemberTree as member}
+use Rattle.java_phrases.specs.Common.{ahead, from_start, next_kind, Gives, Takes, Finds}
+use Rattle.java_phrases.specs.declared.error.SyntaxError.{SyntaxError, SyntaxError as error}
 use Rattle.java_phrases.specs.declared.tokens.Tokens.{Tokens}
-use Rattle.java_phrases.specs.Cursor.{ahead, from_start}
-use Rattle.java_phrases.specs.Parser.{next_kind}
 use Rattle.java_phrases.proofs.Phrases.{next-sign}
-use Rattle.java_phrases.specs.Answers.{Gives, Takes, Finds}
 use Rattle.java_heads.specs.Answers.{field_with}
 use Rattle.java_heads.proofs.Parts.{ahead-same}
 use Rattle.java_heads.specs.Headings.{HeadingSpells, BodyFollows, OneHeading}
@@ -102,24 +95,15 @@ whole-lost class ts e only differs y other (g, left, s, ends) = differs (only g 
 
 parts-with : (class : List ℕ) (tokens : List Token) (m : MemberTree) (ts rest : List Token) → MemberParts class m ts rest → MemberParts class (member_with tokens m) ts rest
 parts-with class tokens (member.Field f) ts rest s = s
-parts-with class tokens (member.Method m) ts rest s = s
-parts-with class tokens (member.Ctor c) ts rest s = s
-parts-with class tokens (member.Main m) ts rest s = s
-parts-with class tokens (member.Sig sig) ts rest s = s
+parts-with class tokens _ ts rest s = s
 
 tokens-with : (tokens : List Token) (m : MemberTree) → tokens_of (member_with tokens m) ≡ tokens
 tokens-with tokens (member.Field f) = refl
-tokens-with tokens (member.Method m) = refl
-tokens-with tokens (member.Ctor c) = refl
-tokens-with tokens (member.Main m) = refl
-tokens-with tokens (member.Sig sig) = refl
+tokens-with tokens _ = refl
 
 own-tokens : (m : MemberTree) → member_with (tokens_of m) (member_with [] m) ≡ m
 own-tokens (member.Field f) = refl
-own-tokens (member.Method m) = refl
-own-tokens (member.Ctor c) = refl
-own-tokens (member.Main m) = refl
-own-tokens (member.Sig sig) = refl
+own-tokens _ = refl
 
 -- ---- through the cursor
 

@@ -1,13 +1,7 @@
 -- A member as its heading and its body.
 use Rattle.std.specs.Prelude.{◌≡◌, ℕ, List, []}
-use Rattle.java_tree.specs.declared.token.Token.{Token}
-use Rattle.java_tree.specs.declared.stmt.Block.{Block}
-use Rattle.java_tree.specs.declared.member.Method.{Method}
-use Rattle.java_tree.specs.declared.member.Ctor.{Ctor}
-use Rattle.java_tree.specs.declared.member.Main.{Main}
-use Rattle.java_tree.specs.declared.member.MemberTree.{MemberTree}
-use Rattle.java_tree.specs.declared.member.MemberTree.TheVariants as member
-use Rattle.java_phrases.specs.Phrase.{Phrase}
+use Rattle.java_phrases.specs.Tree.{Token, Block, Method, Ctor, Main, MemberTree, MemberTree as member}
+use Rattle.java_phrases.specs.Common.{Phrase}
 use Rattle.java_heads.specs.Answers.{field_with, sig_with}
 use Rattle.java_statements.specs.Spelling.{BlockSpells}
 use Rattle.java_heads.specs.declared.heading.Heading.{Heading}

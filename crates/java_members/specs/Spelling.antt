@@ -1,14 +1,8 @@
 -- Which tokens spell which member of a class: one definition for each production (JLS 8, 8.4, 8.8,
 -- 12.1.4, as far as the subset goes).
 use Rattle.std.specs.Prelude.{◌≡◌, ℕ, List}
-use Rattle.java_tree.specs.declared.kind.Kind.TheVariants as k
-use Rattle.java_tree.specs.declared.token.Token.{Token}
-use Rattle.java_tree.specs.declared.member.Method.{Method}
-use Rattle.java_tree.specs.declared.member.Ctor.{Ctor}
-use Rattle.java_tree.specs.declared.member.Main.{Main}
-use Rattle.java_tree.specs.declared.member.MemberTree.{MemberTree}
-use Rattle.java_tree.specs.declared.member.MemberTree.TheVariants as member
-use Rattle.java_phrases.specs.Phrase.{Phrase, ◌⨾◌, ◌⊢◌, Never, Mark, Sign, Spelled, Named, Optional}
+use Rattle.java_phrases.specs.Tree.{Kind as k, Token, Method, Ctor, Main, MemberTree, MemberTree as member}
+use Rattle.java_phrases.specs.Common.{Phrase, ◌⨾◌, ◌⊢◌, Never, Mark, Sign, Spelled, Named, Optional}
 use Rattle.java_heads.specs.declared.declaration.Declaration.TheVariants as of
 use Rattle.java_heads.specs.Spelling.{Kept, Mods, Params, Throws, ResultSpells, FieldParts, string_name}
 use Rattle.java_heads.specs.Headings.{main_name}

@@ -3,3 +3,4 @@ pub mod Token
 pub mod Phrases
 pub mod Loops
 pub mod TypeLaws
+pub mod Answered

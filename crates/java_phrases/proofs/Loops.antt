@@ -1,7 +1,7 @@
 -- A loop over the tokens ahead beside its count of turns.
 use Rattle.std.proofs.Common.{◌≡◌, ℕ, zero, suc, ◌<◌, Bool, true, false, List, length, refl, ◌∙◌, sym, arith}
-use Rattle.java_tree.specs.declared.token.Token.{Token}
-use Rattle.java_phrases.specs.Parser.{Found, Lost, Parser, turns_from, turns}
+use Rattle.java_phrases.specs.Tree.{Token}
+use Rattle.java_phrases.specs.Common.{Found, Lost, Parser, turns_from, turns}
 
 module _ {A : Type 0} (goes : List Token → Bool) (turn : A → Parser A) where
   -- Reading on from x with so many turns finds what the whole loop finds.

@@ -1,13 +1,9 @@
 -- Laws of phrases and parsers of one token, of their sequences, and of the tokens that they take.
-use Rattle.std.proofs.Common.{◌≡◌, suc, ◌<◌, ◌≤◌, Bool, true, false, cond, List, [], ◌∷◌, ◌++◌, length, Option, Some, None, refl, ap, ◌∙◌, sym, subst, arith, rules, append_assoc, length-append}
+use Rattle.std.proofs.Common.{◌≡◌, ◌≤◌, Bool, true, false, cond, List, [], ◌∷◌, ◌++◌, length, Option, Some, None, refl, ap, ◌∙◌, sym, subst, arith, rules, append_assoc, length-append}
 use denote.Enum.Bare.{same_true, true_same}
-use Rattle.desk_base.specs.declared.span.Span.{Span}
+use Rattle.java_phrases.specs.Tree.{Span, Kind, Token, Lexeme}
+use Rattle.java_phrases.specs.Common.{Phrase, Nothing, Mark, Sign, Spelled, word_of, Outcome, Found, Lost, Parser, and_then, same_kind, next_kind, sees, sign, word}
 use Rattle.java_tree.specs.contracts.kind.Kind.{the_type}
-use Rattle.java_tree.specs.declared.kind.Kind.{Kind}
-use Rattle.java_tree.specs.declared.token.Token.{Token}
-use Rattle.java_tree.specs.declared.token.Lexeme.{Lexeme}
-use Rattle.java_phrases.specs.Phrase.{Phrase, Nothing, Mark, Sign, Spelled, word_of}
-use Rattle.java_phrases.specs.Parser.{Outcome, Found, Lost, Parser, and_then, same_kind, next_kind, sees, sign, word}
 
 pub and_then-some : {A B : Type 0} (o : Outcome A) (f : A → Parser B) (y : B) (rest : List Token) → and_then o f ≡ Found y rest
     → (x : A) × (mid : List Token) × (o ≡ Found x mid) × (f x mid ≡ Found y rest)
@@ -92,20 +88,11 @@ Spent ts rest = (taken : List Token) × (ts ≡ taken ++ rest)
 pub spent-nothing : (ts rest : List Token) → Nothing ts rest → Spent ts rest
 spent-nothing ts rest e = ([], e)
 
-pub spent-first : (t : Token) (ts mid rest : List Token) → ts ≡ t ∷ mid → Spent mid rest → Spent ts rest
-spent-first t ts mid rest e (taken, is) = (t ∷ taken, e ∙ ap (λ l. t ∷ l) is)
-
 pub spent-one : (t : Token) (ts rest : List Token) → ts ≡ t ∷ rest → Spent ts rest
 spent-one t ts rest e = (t ∷ [], e)
 
 pub spent-then : (ts mid rest : List Token) → Spent ts mid → Spent mid rest → Spent ts rest
 spent-then ts mid rest (a, e) (b, f) = (a ++ b, e ∙ ap (λ l. a ++ l) f ∙ sym (append_assoc a b rest))
-
-pub shorter-first : (t : Token) (ts mid rest : List Token) → ts ≡ t ∷ mid → Spent mid rest → length rest < length ts
-shorter-first t ts mid rest e (taken, is) =
-    let a : length ts ≡ suc (length mid) = ap length e in
-    let b : length mid ≡ length (taken ++ rest) = ap length is in
-    omega (arith, length-append taken rest)
 
 pub not_longer : (ts rest : List Token) → Spent ts rest → length rest ≤ length ts
 not_longer ts rest (taken, is) = let b : length ts ≡ length (taken ++ rest) = ap length is in omega (arith, length-append taken rest)

@@ -1,9 +1,8 @@
 -- One token is read, or another kind stands there.
 use Rattle.std.proofs.Common.{◌≡◌, ℕ, true, false, List, [], ◌∷◌, ◌++◌, refl, subst}
 use Rattle.std.proofs.Math.Seq.{append_snoc}
-use Rattle.java_tree.specs.declared.kind.Kind.{Kind}
-use Rattle.java_tree.specs.declared.token.Token.{Token}
-use Rattle.java_phrases.specs.Parser.{Found, Lost, same_kind, sees, sign, word}
+use Rattle.java_phrases.specs.Tree.{Kind, Token}
+use Rattle.java_phrases.specs.Common.{Found, Lost, same_kind, sees, sign, word}
 
 pub seen : (kind : Kind) (t : Token) (ts rest : List Token) → ts ≡ t ∷ rest → sees kind ts ≡ true → same_kind t.kind kind ≡ true
 unfolding sees

@@ -1,13 +1,8 @@
 -- What reads as a type is spelled as one, and the reverse.
-use Rattle.std.proofs.Common.{◌≡◌, List, Option, Some, refl, ap}
-use Rattle.java_tree.specs.declared.kind.Kind.{Kind}
-use Rattle.java_tree.specs.declared.kind.Kind.TheVariants as k
-use Rattle.java_tree.specs.declared.token.Token.{Token}
-use Rattle.java_tree.specs.declared.member.Ty.{Ty}
-use Rattle.java_tree.specs.declared.member.Ty.TheVariants as tree
-use Rattle.java_phrases.specs.Phrase.{Phrase, Sign, Spelled}
-use Rattle.java_phrases.specs.Parser.{Found, next_kind, sign, word}
-use Rattle.java_phrases.specs.Types.{TySpells, ty, ty_by}
+use Rattle.std.proofs.Common.{◌≡◌, List, Option, Some, refl}
+use Rattle.java_phrases.specs.Tree.{Kind, Kind as k, Token, Ty, Ty as tree}
+use Rattle.java_phrases.specs.Common.{Found, next_kind, sign, word, TySpells, ty}
+use Rattle.java_phrases.specs.Types.{ty_by}
 use Rattle.java_phrases.proofs.Phrases.{and_then-some, pure-is, sign-sound, sign-complete, word-sound, word-complete, next-sign, next-word}
 
 int-sound : (ts rest : List Token) (y : Ty) → ty_by (Some k.IntType) ts ≡ Found y rest → TySpells y ts rest

@@ -1,6 +1,6 @@
 -- What the functions of the code answer over a cursor.
 use Rattle.std.specs.Prelude.{◌≡◌, ◌≢◌, List, ◌++◌, reverse, Result, Ok, Err}
-use Rattle.java_tree.specs.declared.token.Token.{Token}
+use Rattle.java_phrases.specs.Tree.{Token}
 use Rattle.java_phrases.specs.declared.error.SyntaxError.{SyntaxError}
 use Rattle.java_phrases.specs.declared.error.SyntaxError.TheVariants as error
 use Rattle.java_phrases.specs.declared.tokens.Tokens.{Tokens}

@@ -4,11 +4,8 @@ use Rattle.std.specs.List.{slice_get}
 use Rattle.std.specs.Option.{option_map, option_map_or}
 use Rattle.std.specs.Str.{bytes_eq}
 use denote.Enum.Bare.{sameb}
-use Rattle.desk_base.specs.declared.span.Span.{Span}
+use Rattle.java_phrases.specs.Tree.{Span, Kind, Token, Lexeme}
 use Rattle.java_tree.specs.contracts.kind.Kind.{the_type}
-use Rattle.java_tree.specs.declared.kind.Kind.{Kind}
-use Rattle.java_tree.specs.declared.token.Token.{Token}
-use Rattle.java_tree.specs.declared.token.Lexeme.{Lexeme}
 use Rattle.java_phrases.specs.Phrase.{word_of}
 
 -- what was found and the tokens after it, or that nothing was

@@ -1,11 +1,7 @@
 -- What the productions of a grammar are made of: phrases, each a relation between the tokens before
 -- it and the tokens after it.
 use Rattle.std.specs.Prelude.{◌≡◌, ◌⊎◌, ℕ, List, [], ◌∷◌, Option, Some, None}
-use Rattle.desk_base.specs.declared.span.Span.{Span}
-use Rattle.java_tree.specs.declared.kind.Kind.{Kind}
-use Rattle.java_tree.specs.declared.kind.Kind.TheVariants as k
-use Rattle.java_tree.specs.declared.token.Token.{Token}
-use Rattle.java_tree.specs.declared.token.Lexeme.{Lexeme}
+use Rattle.java_phrases.specs.Tree.{Span, Kind, Kind as k, Token, Lexeme}
 
 abbrev pub Phrase : Type 1
 Phrase = List Token → List Token → Type 0

@@ -1,11 +1,8 @@
 -- Types as they are written.
-use Rattle.std.specs.Prelude.{Option, Some, None}
-use Rattle.java_tree.specs.declared.kind.Kind.{Kind}
-use Rattle.java_tree.specs.declared.kind.Kind.TheVariants as k
-use Rattle.java_tree.specs.declared.member.Ty.{Ty}
-use Rattle.java_tree.specs.declared.member.Ty.TheVariants as tree
+use Rattle.std.specs.Prelude.{Option, Some}
+use Rattle.java_phrases.specs.Tree.{Kind, Kind as k, Ty, Ty as tree}
 use Rattle.java_phrases.specs.Phrase.{Phrase, Sign, Spelled}
-use Rattle.java_phrases.specs.Parser.{Parser, ◌>>=◌, pure, fail, peek, sign, word}
+use Rattle.java_phrases.specs.Parser.{Parser, ◌>>=◌, pure, peek, sign, word}
 
 -- Ty = "int" | "boolean" | Name
 abbrev pub TySpells : Ty → Phrase

@@ -1,15 +1,8 @@
 -- The next token says which sort of part may stand there.
 use Rattle.std.proofs.Common.{◌≡◌, Bool, true, false, List, [], ◌∷◌, ◌++◌, Result, Ok, Err, ap, ◌∙◌, sym}
-use Rattle.java_tree.specs.declared.kind.Kind.TheVariants as k
-use Rattle.java_tree.specs.declared.token.Token.{Token}
-use Rattle.java_tree.specs.declared.member.MemberTree.{MemberTree}
-use Rattle.java_tree.specs.declared.file.Package.{Package}
-use Rattle.java_tree.specs.declared.file.Import.{Import}
-use Rattle.java_tree.specs.declared.file.ClassTree.{ClassTree}
-use Rattle.java_tree.specs.declared.file.FileTree.{FileTree}
+use Rattle.java_phrases.specs.Tree.{Kind as k, Token, MemberTree, Package, Import, ClassTree, FileTree}
+use Rattle.java_phrases.specs.Common.{Mark, Found, Lost, sees, sign}
 use Rattle.java_phrases.specs.declared.error.SyntaxError.{SyntaxError}
-use Rattle.java_phrases.specs.Phrase.{Mark}
-use Rattle.java_phrases.specs.Parser.{Found, Lost, sees, sign}
 use Rattle.java_phrases.proofs.Phrases.{next-mark}
 use Rattle.java_heads.specs.declared.header.Header.{Header}
 use Rattle.java_heads.proofs.Lists.{sees-kind, mark-complete}

@@ -1,19 +1,9 @@
 -- A tree is written in one way, up to blanks and comments.
 use Rattle.std.proofs.Common.{◌≡◌, ℕ, List, [], ◌∷◌, ◌++◌, Option, Some, None, refl, ap, ◌∙◌, sym, subst}
-use Rattle.desk_base.specs.declared.span.Span.{Span}
-use Rattle.java_tree.specs.declared.kind.Kind.{Kind}
-use Rattle.java_tree.specs.declared.kind.Kind.TheVariants as k
-use Rattle.java_tree.specs.declared.token.Token.{Token}
-use Rattle.java_tree.specs.declared.token.Lexeme.{Lexeme}
-use Rattle.java_tree.specs.declared.member.MemberTree.{MemberTree}
-use Rattle.java_tree.specs.declared.file.TypeKind.{TypeKind}
-use Rattle.java_tree.specs.declared.file.Package.{Package}
-use Rattle.java_tree.specs.declared.file.Import.{Import}
-use Rattle.java_tree.specs.declared.file.ClassTree.{ClassTree}
-use Rattle.java_tree.specs.declared.file.FileTree.{FileTree}
+use Rattle.java_phrases.specs.Tree.{Span, Kind, Kind as k, Token, Lexeme, MemberTree, TypeKind, Package, Import, ClassTree, FileTree}
+use Rattle.java_phrases.specs.Common.{Phrase, Nothing, ◌⨾◌, Mark, Sign, Spelled, Each, Optional}
 use Rattle.java_lexer.specs.Spelling.{spelling}
 use Rattle.java_lexer.specs.Lexing.{Spells as TokenSpells, AreSpelled}
-use Rattle.java_phrases.specs.Phrase.{Phrase, Nothing, ◌⨾◌, Mark, Sign, Spelled, Each, Optional}
 use Rattle.java_phrases.proofs.Phrases.{mark-sign}
 use Rattle.java_heads.specs.Annotation.{Qualified}
 use Rattle.java_heads.specs.Spelling.{Star, PackageSpells, ImportSpells}

@@ -2,8 +2,7 @@
 use Rattle.std.proofs.Common.{◌≡◌, ◌≢◌, inl, inr, ℕ, ◌≤◌, List, length, Some, None, Result, Ok, Err, IfOk, IfErr, refl, ap, ◌∙◌, sym, subst, arith}
 use Rattle.desk_base.specs.declared.limit.LimitName.{LimitName}
 use Rattle.desk_base.specs.declared.limit.LimitName.TheVariants as limit
-use Rattle.java_tree.specs.declared.token.Token.{Token}
-use Rattle.java_tree.specs.declared.file.FileTree.{FileTree}
+use Rattle.java_phrases.specs.Tree.{Token, FileTree}
 use Rattle.java_lexer.specs.Lexing.{Lexes, LexAt}
 use Rattle.java_reader.specs.declared.error.ReadError.{ReadError}
 use Rattle.java_reader.specs.declared.error.ReadError.TheVariants as error

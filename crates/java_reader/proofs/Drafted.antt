@@ -1,13 +1,7 @@
 -- What a draft says of the tokens that were read, and how each part keeps it.
 use Rattle.std.proofs.Common.{◌≡◌, List, [], ◌∷◌, ◌++◌, Option, Some, None, refl, ap, ◌∙◌, sym, subst}
-use Rattle.java_tree.specs.declared.token.Token.{Token}
-use Rattle.java_tree.specs.declared.member.MemberTree.{MemberTree}
-use Rattle.java_tree.specs.declared.file.Package.{Package}
-use Rattle.java_tree.specs.declared.file.Import.{Import}
-use Rattle.java_tree.specs.declared.file.ClassTree.{ClassTree}
-use Rattle.java_tree.specs.declared.file.FileTree.{FileTree}
-use Rattle.java_phrases.specs.Phrase.{Phrase, Nothing, ◌⨾◌, Each, Mark}
-use Rattle.java_tree.specs.declared.kind.Kind.TheVariants as k
+use Rattle.java_phrases.specs.Tree.{Token, MemberTree, Package, Import, ClassTree, FileTree, Kind as k}
+use Rattle.java_phrases.specs.Common.{Phrase, Nothing, ◌⨾◌, Each, Mark}
 use Rattle.java_heads.specs.declared.header.Header.{Header}
 use Rattle.java_heads.specs.Spelling.{PackageSpells, ImportSpells, HeaderSpells}
 use Rattle.java_heads.proofs.Lists.{each-snoc}

@@ -1,24 +1,7 @@
 -- Which token a part begins with.
 use Rattle.std.proofs.Common.{◌≡◌, ℕ, true, false, List, [], ◌∷◌, Option, Some, None, refl, ap, ◌∙◌}
-use Rattle.java_tree.specs.declared.kind.Kind.{Kind}
-use Rattle.java_tree.specs.declared.kind.Kind.TheVariants as k
-use Rattle.java_tree.specs.declared.token.Token.{Token}
-use Rattle.java_tree.specs.declared.member.Mod.{Mod}
-use Rattle.java_tree.specs.declared.member.Mod.TheVariants as modifier
-use Rattle.java_tree.specs.declared.member.ModWord.{ModWord}
-use Rattle.java_tree.specs.declared.member.ModWord.TheVariants as w
-use Rattle.java_tree.specs.declared.member.Ty.{Ty}
-use Rattle.java_tree.specs.declared.member.Ty.TheVariants as type
-use Rattle.java_tree.specs.declared.member.Sig.{Sig}
-use Rattle.java_tree.specs.declared.member.MemberTree.{MemberTree}
-use Rattle.java_tree.specs.declared.member.MemberTree.TheVariants as member
-use Rattle.java_tree.specs.declared.file.TypeKind.{TypeKind}
-use Rattle.java_tree.specs.declared.file.TypeKind.TheVariants as sort
-use Rattle.java_tree.specs.declared.file.Package.{Package}
-use Rattle.java_tree.specs.declared.file.Import.{Import}
-use Rattle.java_phrases.specs.Phrase.{Each, Mark}
-use Rattle.java_phrases.specs.Parser.{same_kind, sees}
-use Rattle.java_phrases.specs.Types.{TySpells}
+use Rattle.java_phrases.specs.Tree.{Kind, Kind as k, Token, Mod, Mod as modifier, ModWord, ModWord as w, Ty, Ty as type, Sig, MemberTree, MemberTree as member, TypeKind, TypeKind as sort, Package, Import}
+use Rattle.java_phrases.specs.Common.{Each, Mark, same_kind, sees, TySpells}
 use Rattle.java_phrases.proofs.Phrases.{next-sign, next-mark, next-word}
 use Rattle.java_heads.specs.declared.header.Header.{Header}
 use Rattle.java_heads.specs.Modifiers.{kind_of}
@@ -34,30 +17,15 @@ pub record NoModifier (asked : Kind) : Type 0 where
 
 package-word : (m : ModWord) → same_kind (kind_of m) k.Package ≡ false
 package-word w.Public = refl
-package-word w.Protected = refl
-package-word w.Private = refl
-package-word w.Static = refl
-package-word w.Final = refl
-package-word w.Abstract = refl
-package-word w.Synchronized = refl
+package-word _ = refl
 
 import-word : (m : ModWord) → same_kind (kind_of m) k.Import ≡ false
 import-word w.Public = refl
-import-word w.Protected = refl
-import-word w.Private = refl
-import-word w.Static = refl
-import-word w.Final = refl
-import-word w.Abstract = refl
-import-word w.Synchronized = refl
+import-word _ = refl
 
 brace-word : (m : ModWord) → same_kind (kind_of m) k.RBrace ≡ false
 brace-word w.Public = refl
-brace-word w.Protected = refl
-brace-word w.Private = refl
-brace-word w.Static = refl
-brace-word w.Final = refl
-brace-word w.Abstract = refl
-brace-word w.Synchronized = refl
+brace-word _ = refl
 
 package-free : NoModifier k.Package
 package-free = record { at = refl; word = package-word }
@@ -119,10 +87,7 @@ sig-front s ts rest (t1, (fit, mods), (t2, of_type, tail)) = mods-front k.RBrace
 
 interface-front : (name : List ℕ) (m : MemberTree) (ts rest : List Token) → TypeMember sort.Interface name m ts rest → sees k.RBrace ts ≡ false
 interface-front name (member.Sig s) ts rest (p, is) = sig-front s ts rest p
-interface-front name (member.Field f) ts rest none = absurd none
-interface-front name (member.Method m) ts rest none = absurd none
-interface-front name (member.Ctor c) ts rest none = absurd none
-interface-front name (member.Main m) ts rest none = absurd none
+interface-front name _ ts rest none = absurd none
 
 pub member-front : (kind : TypeKind) (name : List ℕ) (m : MemberTree) (ts rest : List Token) → TypeMember kind name m ts rest → sees k.RBrace ts ≡ false
 member-front sort.Class name m ts rest (p, is) = class-front name m ts rest p

@@ -1,9 +1,7 @@
 -- What the loop over the parts has found when it stops.
 use Rattle.std.proofs.Common.{◌≡◌, ℕ, ◌<◌, List, [], ◌∷◌, length, Option, Some, None, unwrap_or, Result, Ok, Err, IfOk, IfErr, refl, sym, subst}
-use Rattle.java_tree.specs.declared.token.Token.{Token}
-use Rattle.java_tree.specs.declared.file.ClassTree.{ClassTree}
-use Rattle.java_tree.specs.declared.file.FileTree.{FileTree}
-use Rattle.java_phrases.specs.Parser.{next_start}
+use Rattle.java_phrases.specs.Tree.{Token, ClassTree, FileTree}
+use Rattle.java_phrases.specs.Common.{next_start}
 use Rattle.java_reader.specs.declared.error.ReadError.{ReadError}
 use Rattle.java_reader.specs.declared.error.ReadError.TheVariants as error
 use Rattle.java_reader.specs.declared.draft.Draft.{Draft}

@@ -1,16 +1,9 @@
 -- The tokens of a file, cut into those that its parts keep.
 use Rattle.std.proofs.Common.{◌≡◌, ℕ, ◌≤◌, List, [], ◌∷◌, ◌++◌, length, Option, Some, None, subst, arith}
 use Rattle.std.proofs.Math.Nat.{le_refl}
-use Rattle.java_tree.specs.declared.token.Token.{Token}
-use Rattle.java_tree.specs.declared.member.MemberTree.{MemberTree}
-use Rattle.java_tree.specs.declared.member.MemberTree.TheVariants as member
-use Rattle.java_tree.specs.declared.file.TypeKind.{TypeKind}
-use Rattle.java_tree.specs.declared.file.TypeKind.TheVariants as sort
-use Rattle.java_tree.specs.declared.file.Package.{Package}
-use Rattle.java_tree.specs.declared.file.ClassTree.{ClassTree}
-use Rattle.java_tree.specs.declared.file.FileTree.{FileTree}
+use Rattle.java_phrases.specs.Tree.{Token, MemberTree, MemberTree as member, TypeKind, TypeKind as sort, Package, ClassTree, FileTree}
+use Rattle.java_phrases.specs.Common.{Each}
 use Rattle.java_lexer.specs.Lexing.{Follow}
-use Rattle.java_phrases.specs.Phrase.{Each}
 use Rattle.java_phrases.proofs.Phrases.{Spent, spent-nothing}
 use Rattle.java_heads.specs.Spelling.{ImportSpells}
 use Rattle.java_heads.proofs.Lists.{spends-each}
@@ -45,10 +38,7 @@ follow-behind text from ts rest end (taken, is) f =
 pub kept : (kind : TypeKind) (name : List ℕ) (m : MemberTree) (ts rest : List Token) → TypeMember kind name m ts rest → ts ≡ tokens_of m ++ rest
 kept sort.Class name m ts rest (s, is) = is
 kept sort.Interface name (member.Sig s) ts rest (p, is) = is
-kept sort.Interface name (member.Field f) ts rest none = absurd none
-kept sort.Interface name (member.Method m) ts rest none = absurd none
-kept sort.Interface name (member.Ctor c) ts rest none = absurd none
-kept sort.Interface name (member.Main m) ts rest none = absurd none
+kept sort.Interface name _ ts rest none = absurd none
 
 members : (text : List ℕ) (from : ℕ) (kind : TypeKind) (name : List ℕ) (ms : List MemberTree) (ts rest : List Token) (end : ℕ) → Each (TypeMember kind name) ms ts rest → Follow text from ts end
     → (mid : ℕ) × MembersFollow text from ms mid × Follow text mid rest end

@@ -1,14 +1,12 @@
 -- Where the tokens stand at which reading may end.
-use Rattle.std.proofs.Common.{◌≡◌, ℕ, ◌≤◌, Bool, true, false, cond, List, [], ◌∷◌, ◌++◌, length, Option, Some, None, refl, ap, sym, ◌∙◌, subst, arith, nat_le}
+use Rattle.std.proofs.Common.{◌≡◌, ℕ, ◌≤◌, Bool, true, false, cond, List, [], ◌∷◌, ◌++◌, length, Some, refl, ap, sym, subst, arith, nat_le}
 use Rattle.std.specs.List.{find}
 use Rattle.std.proofs.lemmas.List.{append-nil}
 use Rattle.std.proofs.lemmas.Bool.{leb-true}
-use Rattle.java_tree.specs.declared.kind.Kind.TheVariants as k
-use Rattle.java_tree.specs.declared.token.Token.{Token}
-use Rattle.java_tree.specs.declared.member.MemberTree.{MemberTree}
+use Rattle.java_phrases.specs.Tree.{Kind as k, Token, MemberTree}
+use Rattle.java_phrases.specs.Common.{next_start}
 use Rattle.java_lexer.specs.Lexing.{Lexes, Follow}
-use Rattle.java_phrases.specs.Parser.{next_start}
-use Rattle.java_phrases.proofs.Phrases.{Spent, spent-nothing, spent-then}
+use Rattle.java_phrases.proofs.Phrases.{spent-nothing, spent-then}
 use Rattle.java_heads.proofs.Lists.{Spends, spends-mark}
 use Rattle.java_reader.specs.Parts.{Part, PackageLine, ImportLine, Opening, Inner, Closing, Stage, Start, Lines, Types, Body, MemberAt, PartSpells, PartsSpell, stage_after}
 use Rattle.java_reader.specs.Reads.{IsGrammarAt, place_of}

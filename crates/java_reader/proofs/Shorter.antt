@@ -1,26 +1,7 @@
 -- Each part of a file takes a token at least.
 use Rattle.std.proofs.Common.{◌≡◌, ℕ, ◌<◌, ◌≤◌, List, [], ◌∷◌, suc, length, Option, Some, None, arith}
-use Rattle.desk_base.specs.declared.span.Span.{Span}
-use Rattle.java_tree.specs.declared.kind.Kind.{Kind}
-use Rattle.java_tree.specs.declared.kind.Kind.TheVariants as k
-use Rattle.java_tree.specs.declared.token.Token.{Token}
-use Rattle.java_tree.specs.declared.token.Lexeme.{Lexeme}
-use Rattle.java_tree.specs.declared.stmt.Block.{Block}
-use Rattle.java_tree.specs.declared.member.Mod.{Mod}
-use Rattle.java_tree.specs.declared.member.Ty.{Ty}
-use Rattle.java_tree.specs.declared.member.Ty.TheVariants as type
-use Rattle.java_tree.specs.declared.member.Init.{Init}
-use Rattle.java_tree.specs.declared.member.Init.TheVariants as init
-use Rattle.java_tree.specs.declared.member.Param.{Param}
-use Rattle.java_tree.specs.declared.member.Sig.{Sig}
-use Rattle.java_tree.specs.declared.member.MemberTree.{MemberTree}
-use Rattle.java_tree.specs.declared.member.MemberTree.TheVariants as member
-use Rattle.java_tree.specs.declared.file.TypeKind.{TypeKind}
-use Rattle.java_tree.specs.declared.file.TypeKind.TheVariants as sort
-use Rattle.java_tree.specs.declared.file.Package.{Package}
-use Rattle.java_tree.specs.declared.file.Import.{Import}
-use Rattle.java_phrases.specs.Phrase.{Phrase, ◌⨾◌, Mark, Sign, Spelled, Each, Separated, Named, Optional}
-use Rattle.java_phrases.specs.Types.{TySpells}
+use Rattle.java_phrases.specs.Tree.{Span, Kind, Kind as k, Token, Lexeme, Block, Mod, Ty, Ty as type, Init, Init as init, Param, Sig, MemberTree, MemberTree as member, TypeKind, TypeKind as sort, Package, Import}
+use Rattle.java_phrases.specs.Common.{Phrase, ◌⨾◌, Mark, Sign, Spelled, Each, Separated, Named, Optional, TySpells}
 use Rattle.java_phrases.proofs.Phrases.{Spent, spent-nothing, spent-one, not_longer}
 use Rattle.java_heads.specs.declared.declaration.Declaration.{Declaration}
 use Rattle.java_heads.specs.declared.declaration.Declaration.TheVariants as of
@@ -165,10 +146,7 @@ by-sig s =
 by-member : (kind : TypeKind) (name : List ℕ) (m : MemberTree) → Shortens (TypeMember kind name m)
 by-member sort.Class name m ts rest (s, is) = by-class name m ts rest s
 by-member sort.Interface name (member.Sig s) ts rest (p, is) = by-sig s ts rest p
-by-member sort.Interface name (member.Field f) ts rest none = absurd none
-by-member sort.Interface name (member.Method m) ts rest none = absurd none
-by-member sort.Interface name (member.Ctor c) ts rest none = absurd none
-by-member sort.Interface name (member.Main m) ts rest none = absurd none
+by-member sort.Interface name _ ts rest none = absurd none
 
 spends-name-end : (name : List Lexeme) → Spends (Qualified name ⨾ Mark k.Semicolon)
 spends-name-end name = spends-then (Qualified name) (Mark k.Semicolon) (spends-qualified name) (spends-mark k.Semicolon)

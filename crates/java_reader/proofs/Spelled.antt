@@ -1,15 +1,7 @@
 -- A file that is spelled, as a list of parts; and that tokens spell one file at most.
 use Rattle.std.proofs.Common.{◌≡◌, ℕ, true, false, List, [], ◌∷◌, ◌++◌, Option, Some, None, refl, ap, ◌∙◌, sym, subst}
-use Rattle.java_tree.specs.declared.kind.Kind.TheVariants as k
-use Rattle.java_tree.specs.declared.token.Token.{Token}
-use Rattle.java_tree.specs.declared.member.MemberTree.{MemberTree}
-use Rattle.java_tree.specs.declared.file.TypeKind.{TypeKind}
-use Rattle.java_tree.specs.declared.file.Package.{Package}
-use Rattle.java_tree.specs.declared.file.Import.{Import}
-use Rattle.java_tree.specs.declared.file.ClassTree.{ClassTree}
-use Rattle.java_tree.specs.declared.file.FileTree.{FileTree}
-use Rattle.java_phrases.specs.Phrase.{Phrase, Each, Mark}
-use Rattle.java_phrases.specs.Parser.{sees}
+use Rattle.java_phrases.specs.Tree.{Kind as k, Token, MemberTree, TypeKind, Package, Import, ClassTree, FileTree}
+use Rattle.java_phrases.specs.Common.{Phrase, Each, Mark, sees}
 use Rattle.java_phrases.proofs.Phrases.{next-mark}
 use Rattle.java_heads.specs.declared.header.Header.{Header}
 use Rattle.java_heads.specs.Laws.{OneTree}
@@ -17,7 +9,7 @@ use Rattle.java_heads.specs.Spelling.{PackageSpells, ImportSpells}
 use Rattle.java_heads.specs.Reading.{package_line, import_line}
 use Rattle.java_heads.proofs.Lists.{sees-kind}
 use Rattle.java_heads.proofs.LineLaws.{package-complete, import-complete}
-use Rattle.java_heads.proofs.Parts.{one-found}
+use Rattle.java_phrases.proofs.Answered.{one-found}
 use Rattle.java_heads.proofs.ReaderLemmas.{one_header}
 use Rattle.java_reader.specs.Spelling.{TypeMember, header_of, TypeSpells, PackagePart, FileSpells, Spells}
 use Rattle.java_reader.specs.Parts.{Part, PackageLine, ImportLine, Opening, Inner, Closing, Stage, Start, Lines, Types, Body, IsBeforeTypes, IsOutside, PartSpells, PartsSpell, stage_after}

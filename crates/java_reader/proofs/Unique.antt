@@ -1,23 +1,16 @@
 -- At most one part begins the tokens at a stage. So a list of parts that can't go on is the longest one, and
 -- there is one such list.
 use Rattle.std.proofs.Common.{◌≡◌, ℕ, ◌+◌, ◌≤◌, ◌<◌, Bool, true, false, List, [], ◌∷◌, ◌++◌, length, refl, ap, ◌∙◌, sym, subst, arith, length-append}
-use Rattle.java_tree.specs.declared.kind.Kind.TheVariants as k
-use Rattle.java_tree.specs.declared.token.Token.{Token}
-use Rattle.java_tree.specs.declared.member.MemberTree.{MemberTree}
-use Rattle.java_tree.specs.declared.member.MemberTree.TheVariants as member
-use Rattle.java_tree.specs.declared.file.TypeKind.{TypeKind}
-use Rattle.java_tree.specs.declared.file.TypeKind.TheVariants as sort
-use Rattle.java_tree.specs.declared.file.Package.{Package}
-use Rattle.java_tree.specs.declared.file.Import.{Import}
-use Rattle.java_phrases.specs.Phrase.{Mark}
-use Rattle.java_phrases.specs.Parser.{sees}
+use Rattle.java_phrases.specs.Tree.{Kind as k, Token, MemberTree, MemberTree as member, TypeKind, TypeKind as sort, Package, Import}
+use Rattle.java_phrases.specs.Common.{Mark, sees}
 use Rattle.java_phrases.proofs.Phrases.{next-mark}
 use Rattle.java_heads.specs.Spelling.{PackageSpells, ImportSpells, SigParts}
 use Rattle.java_heads.specs.Reading.{package_line, import_line, signature}
 use Rattle.java_heads.specs.Answers.{sig_with}
 use Rattle.java_heads.proofs.Lists.{sees-kind}
 use Rattle.java_heads.proofs.LineLaws.{package-complete, import-complete}
-use Rattle.java_heads.proofs.Parts.{one-found, one-kept}
+use Rattle.java_phrases.proofs.Answered.{one-found}
+use Rattle.java_heads.proofs.Parts.{one-kept}
 use Rattle.java_heads.proofs.ReaderLemmas.{one_header, sig_tokens, sig-part}
 use Rattle.java_heads.proofs.HeadingLaws.{one_heading}
 use Rattle.java_statements.proofs.ReaderLemmas.{one_block}
@@ -91,14 +84,8 @@ part-sort (Body kind name) Closing ts rest (ok, s) = let e : sees k.RBrace ts �
 one-sig : (one other : MemberTree) (name : List ℕ) (ts rest other_rest : List Token) → TypeMember sort.Interface name one ts rest → TypeMember sort.Interface name other ts other_rest → (one ≡ other) × (rest ≡ other_rest)
 one-sig (member.Sig s) (member.Sig t) name ts rest other_rest a b =
     let (e, f) = one-kept SigParts signature sig_tokens sig_with sig-part s t ts rest other_rest a b in (ap (λ x. member.Sig x) e, f)
-one-sig (member.Sig s) (member.Field f) name ts rest other_rest a b = absurd b
-one-sig (member.Sig s) (member.Method m) name ts rest other_rest a b = absurd b
-one-sig (member.Sig s) (member.Ctor c) name ts rest other_rest a b = absurd b
-one-sig (member.Sig s) (member.Main m) name ts rest other_rest a b = absurd b
-one-sig (member.Field f) other name ts rest other_rest a b = absurd a
-one-sig (member.Method m) other name ts rest other_rest a b = absurd a
-one-sig (member.Ctor c) other name ts rest other_rest a b = absurd a
-one-sig (member.Main m) other name ts rest other_rest a b = absurd a
+one-sig (member.Sig s) _ name ts rest other_rest a b = absurd b
+one-sig _ other name ts rest other_rest a b = absurd a
 
 pub one-inner : (kind : TypeKind) (name : List ℕ) (one other : MemberTree) (ts rest other_rest : List Token) → TypeMember kind name one ts rest → TypeMember kind name other ts other_rest → (one ≡ other) × (rest ≡ other_rest)
 one-inner sort.Class name one other ts rest other_rest a b = one_member one_heading one_block name one other ts rest other_rest a b

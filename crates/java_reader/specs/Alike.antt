@@ -1,6 +1,6 @@
 -- What it is that tokens are written alike.
 use Rattle.std.specs.Prelude.{◌≡◌, List, [], ◌∷◌}
-use Rattle.java_tree.specs.declared.token.Token.{Token}
+use Rattle.java_phrases.specs.Tree.{Token}
 
 -- the same kinds and the same bytes, in order; the places may differ
 abbrev pub Alike : List Token → List Token → Type 0

@@ -2,12 +2,9 @@
 use Rattle.std.specs.Prelude.{◌≡◌, ◌≢◌, ℕ, List, Some, None, Result, Ok, Err}
 use Rattle.desk_base.specs.declared.limit.LimitName.{LimitName}
 use Rattle.desk_base.specs.declared.limit.LimitName.TheVariants as limit
-use Rattle.java_tree.specs.declared.token.Token.{Token}
-use Rattle.java_tree.specs.declared.file.ClassTree.{ClassTree}
-use Rattle.java_tree.specs.declared.file.FileTree.{FileTree}
-use Rattle.java_phrases.specs.declared.error.SyntaxError.{SyntaxError}
-use Rattle.java_phrases.specs.declared.error.SyntaxError.TheVariants as syntax
-use Rattle.java_phrases.specs.Phrase.{Phrase}
+use Rattle.java_phrases.specs.Tree.{Token, ClassTree, FileTree}
+use Rattle.java_phrases.specs.Common.{Phrase}
+use Rattle.java_phrases.specs.declared.error.SyntaxError.{SyntaxError, SyntaxError as syntax}
 use Rattle.java_reader.specs.declared.error.ReadError.{ReadError}
 use Rattle.java_reader.specs.declared.error.ReadError.TheVariants as error
 use Rattle.java_reader.specs.declared.draft.Draft.{Draft}

@@ -1,10 +1,6 @@
 -- What has been read of a file so far, and what each part adds to it.
 use Rattle.std.specs.Prelude.{List, [], ◌∷◌, ◌++◌, Option, Some, None}
-use Rattle.java_tree.specs.declared.member.MemberTree.{MemberTree}
-use Rattle.java_tree.specs.declared.file.Package.{Package}
-use Rattle.java_tree.specs.declared.file.Import.{Import}
-use Rattle.java_tree.specs.declared.file.ClassTree.{ClassTree}
-use Rattle.java_tree.specs.declared.file.FileTree.{FileTree}
+use Rattle.java_phrases.specs.Tree.{MemberTree, Package, Import, ClassTree, FileTree}
 use Rattle.java_heads.specs.declared.header.Header.{Header}
 use Rattle.java_reader.specs.declared.draft.Draft.{Draft}
 use Rattle.java_reader.specs.Parts.{Part, PackageLine, ImportLine, Opening, Inner, Closing, Stage, Start, Lines, Types, Body}

@@ -1,13 +1,8 @@
 -- The parts of a file: the package line, each import line, each type's header up to its "{", each member,
 -- and each type's closing "}". They say where a file that isn't spelled is at fault.
 use Rattle.std.specs.Prelude.{ℕ, ◌≤◌, List, [], ◌∷◌, length}
-use Rattle.java_tree.specs.declared.kind.Kind.TheVariants as k
-use Rattle.java_tree.specs.declared.token.Token.{Token}
-use Rattle.java_tree.specs.declared.member.MemberTree.{MemberTree}
-use Rattle.java_tree.specs.declared.file.TypeKind.{TypeKind}
-use Rattle.java_tree.specs.declared.file.Package.{Package}
-use Rattle.java_tree.specs.declared.file.Import.{Import}
-use Rattle.java_phrases.specs.Phrase.{Phrase, Nothing, ◌⨾◌, ◌⊢◌, Never, Mark}
+use Rattle.java_phrases.specs.Tree.{Kind as k, Token, MemberTree, TypeKind, Package, Import}
+use Rattle.java_phrases.specs.Common.{Phrase, Nothing, ◌⨾◌, ◌⊢◌, Never, Mark}
 use Rattle.java_heads.specs.declared.header.Header.{Header}
 use Rattle.java_heads.specs.Spelling.{PackageSpells, ImportSpells, HeaderSpells}
 use Rattle.java_reader.specs.Spelling.{TypeMember}

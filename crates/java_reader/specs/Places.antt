@@ -1,7 +1,6 @@
 -- In which order the tokens stand that a tree keeps.
 use Rattle.std.specs.Prelude.{ℕ, ◌≤◌, List, [], ◌∷◌}
-use Rattle.java_tree.specs.declared.member.MemberTree.{MemberTree}
-use Rattle.java_tree.specs.declared.file.ClassTree.{ClassTree}
+use Rattle.java_phrases.specs.Tree.{MemberTree, ClassTree}
 use Rattle.java_lexer.specs.Lexing.{Follow}
 use Rattle.java_members.specs.Spelling.{tokens_of}
 

@@ -1,6 +1,6 @@
 -- How far reading came in a file whose grammar is at fault.
 use Rattle.std.specs.Prelude.{◌≡◌, ℕ, ◌≤◌, nat_le, List, ◌++◌, length, find, Option}
-use Rattle.java_tree.specs.declared.token.Token.{Token}
+use Rattle.java_phrases.specs.Tree.{Token}
 use Rattle.java_lexer.specs.Lexing.{Lexes}
 use Rattle.java_reader.specs.Reads.{place_of}
 

@@ -3,11 +3,9 @@ use Rattle.std.specs.Prelude.{◌≡◌, ◌⊎◌, ℕ, ◌+◌, ◌<◌, ◌�
 use Rattle.desk_base.specs.declared.limit.LimitName.{LimitName}
 use Rattle.desk_base.specs.declared.limit.LimitName.TheVariants as limit
 use Rattle.desk_base.specs.Limit.{limit_max}
-use Rattle.java_tree.specs.declared.kind.Kind.TheVariants as k
-use Rattle.java_tree.specs.declared.token.Token.{Token}
-use Rattle.java_tree.specs.declared.file.FileTree.{FileTree}
+use Rattle.java_phrases.specs.Tree.{Kind as k, Token, FileTree}
+use Rattle.java_phrases.specs.Common.{same_kind, next_start}
 use Rattle.java_lexer.specs.Lexing.{Lexes, LexAt}
-use Rattle.java_phrases.specs.Parser.{same_kind, next_start}
 use Rattle.java_reader.specs.declared.error.ReadError.{ReadError}
 use Rattle.java_reader.specs.declared.error.ReadError.TheVariants as error
 use Rattle.java_reader.specs.Spelling.{Spells}

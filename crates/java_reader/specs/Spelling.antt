@@ -1,16 +1,8 @@
 -- Which tokens spell which file: one definition for each production (JLS 8, 7.3, 8.1.6, 9.1.4, as far as
 -- the subset goes).
 use Rattle.std.specs.Prelude.{ℕ, List, [], Option, Some, None}
-use Rattle.java_tree.specs.declared.kind.Kind.TheVariants as k
-use Rattle.java_tree.specs.declared.token.Token.{Token}
-use Rattle.java_tree.specs.declared.member.MemberTree.{MemberTree}
-use Rattle.java_tree.specs.declared.member.MemberTree.TheVariants as member
-use Rattle.java_tree.specs.declared.file.TypeKind.{TypeKind}
-use Rattle.java_tree.specs.declared.file.TypeKind.TheVariants as sort
-use Rattle.java_tree.specs.declared.file.Package.{Package}
-use Rattle.java_tree.specs.declared.file.ClassTree.{ClassTree}
-use Rattle.java_tree.specs.declared.file.FileTree.{FileTree}
-use Rattle.java_phrases.specs.Phrase.{Phrase, Nothing, ◌⨾◌, Never, Mark, Each}
+use Rattle.java_phrases.specs.Tree.{Kind as k, Token, MemberTree, MemberTree as member, TypeKind, TypeKind as sort, Package, ClassTree, FileTree}
+use Rattle.java_phrases.specs.Common.{Phrase, Nothing, ◌⨾◌, Never, Mark, Each}
 use Rattle.java_heads.specs.declared.header.Header.{Header}
 use Rattle.java_heads.specs.Spelling.{PackageSpells, ImportSpells, HeaderSpells, SigSpells}
 use Rattle.java_members.specs.Spelling.{MemberSpells}

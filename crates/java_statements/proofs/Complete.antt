@@ -2,23 +2,11 @@
 use Rattle.std.proofs.Common.{◌≡◌, ℕ, zero, suc, ◌<◌, not, Bool, true, false, List, [], ◌∷◌, ◌++◌, length, Option, Some, None, refl, ap, ◌∙◌, sym, arith}
 use Rattle.std.proofs.Math.Seq.{append_snoc}
 use Rattle.std.proofs.lemmas.List.{append-nil}
-use Rattle.desk_base.specs.declared.span.Span.{Span}
-use Rattle.java_tree.specs.declared.kind.Kind.{Kind}
-use Rattle.java_tree.specs.declared.kind.Kind.TheVariants as k
-use Rattle.java_tree.specs.declared.token.Token.{Token}
-use Rattle.java_tree.specs.declared.expr.Expr.{Expr}
-use Rattle.java_tree.specs.declared.stmt.Action.{Action}
-use Rattle.java_tree.specs.declared.stmt.ForFirst.{ForFirst}
-use Rattle.java_tree.specs.declared.stmt.Monitor.{Monitor}
-use Rattle.java_tree.specs.declared.stmt.Stmt.{Stmt, out-Stmt, roll-Stmt, roll-out-Stmt}
+use Rattle.java_phrases.specs.Tree.{Span, Kind, Kind as k, Token, Expr, Action, ForFirst, Monitor, Stmt, out-Stmt, roll-Stmt, roll-out-Stmt, Block, out-Block, roll-out-Block, BlockItem, out-BlockItem, roll-BlockItem, roll-out-BlockItem, Stmt-F, BlockItem-F}
+use Rattle.java_phrases.specs.Common.{Phrase, ◌⨾◌, Mark, Sign, Each, Found, Parser, same_kind, next_kind, sees, turns_from, turns}
 use Rattle.java_tree.specs.declared.stmt.Stmt.TheVariants as tree
 use Rattle.java_tree.specs.declared.stmt.Stmt.TheVariants.{rolls-Block, rolls-Empty, rolls-Action, rolls-If, rolls-While, rolls-For, rolls-Sync, rolls-Return}
-use Rattle.java_tree.specs.declared.stmt.Block.{Block, out-Block, roll-out-Block}
-use Rattle.java_tree.specs.declared.stmt.BlockItem.{BlockItem, out-BlockItem, roll-BlockItem, roll-out-BlockItem}
 use Rattle.java_tree.specs.declared.stmt.BlockItem.TheVariants.{rolls-Local, rolls-Stmt}
-use Rattle.java_tree.specs.declared.stmt.BlockItem.TheOpen.{Stmt-F, BlockItem-F}
-use Rattle.java_phrases.specs.Phrase.{Phrase, ◌⨾◌, Mark, Sign, Each}
-use Rattle.java_phrases.specs.Parser.{Found, Parser, same_kind, next_kind, sees, turns_from, turns}
 use Rattle.java_phrases.proofs.Phrases.{next-sign, next-mark, sign-complete, sign-mark, mark-sign}
 use Rattle.java_phrases.proofs.Loops.{turn_once, turn_ends}
 use Rattle.java_expressions.proofs.Complete.{sees-kind}

@@ -4,32 +4,13 @@ use Rattle.std.proofs.Math.Nat.{le_refl}
 use Rattle.std.proofs.lemmas.Bool.{le-ltb}
 use Rattle.std.specs.Str.{bytes_eq}
 use Rattle.std.proofs.lemmas.Slice.Eq.{bytes_eq-Decides}
-use Rattle.desk_base.specs.declared.span.Span.{Span}
-use Rattle.java_tree.specs.declared.kind.Kind.{Kind}
-use Rattle.java_tree.specs.declared.kind.Kind.TheVariants as k
-use Rattle.java_tree.specs.declared.token.Token.{Token}
-use Rattle.java_tree.specs.declared.token.Lexeme.{Lexeme}
-use Rattle.java_tree.specs.declared.expr.Expr.{Expr, out-Expr}
-use Rattle.java_tree.specs.declared.expr.Expr.TheOpen.{Expr-F}
+use Rattle.java_phrases.specs.Tree.{Span, Kind, Kind as k, Token, Lexeme, Expr, out-Expr, Expr-F, AssignOp, AssignOp as assign, StepOp, StepOp as step, Action, Action as action, Local, ForFirst, ForFirst as first, Monitor, Monitor as monitor}
+use Rattle.java_phrases.specs.Common.{◌⨾◌, Mark, Sign, Spelled, Named, Optional, Outcome, Found, same_kind, next_kind, kind_at, text_at, sees, sees_text, thread_name}
 use Rattle.java_tree.specs.declared.expr.Expr.TheViews.{roll-out-Expr}
-use Rattle.java_tree.specs.declared.stmt.AssignOp.{AssignOp}
-use Rattle.java_tree.specs.declared.stmt.AssignOp.TheVariants as assign
-use Rattle.java_tree.specs.declared.stmt.StepOp.{StepOp}
-use Rattle.java_tree.specs.declared.stmt.StepOp.TheVariants as step
-use Rattle.java_tree.specs.declared.stmt.Action.{Action}
-use Rattle.java_tree.specs.declared.stmt.Action.TheVariants as action
-use Rattle.java_tree.specs.declared.stmt.Local.{Local}
-use Rattle.java_tree.specs.declared.stmt.ForFirst.{ForFirst}
-use Rattle.java_tree.specs.declared.stmt.ForFirst.TheVariants as first
-use Rattle.java_tree.specs.declared.stmt.Monitor.{Monitor}
-use Rattle.java_tree.specs.declared.stmt.Monitor.TheVariants as monitor
 use Rattle.java_tree.specs.declared.stmt.BlockItem.TheVariants as item
-use Rattle.java_phrases.specs.Phrase.{◌⨾◌, Mark, Sign, Spelled, Named, Optional}
-use Rattle.java_phrases.specs.Parser.{Outcome, Found, same_kind, next_kind, kind_at, text_at, sees, sees_text}
 use Rattle.java_phrases.proofs.Phrases.{is_same, next-sign, next-mark, sign-complete, word-complete, sign-mark}
 use Rattle.java_phrases.proofs.TypeLaws.{ty-complete}
 use Rattle.java_expressions.specs.declared.tall.Tall.{Tall}
-use Rattle.java_phrases.specs.Texts.{thread_name}
 use Rattle.java_expressions.specs.Spelling.{Layered, Spells, ExprSpells}
 use Rattle.java_expressions.specs.Reading.{tall, expr, post_read, operator}
 use Rattle.java_expressions.proofs.Sound.{expr-sound}
@@ -109,13 +90,11 @@ target-complete room e ts rest s end =
 
 assign-no_dot : (o : AssignOp) → same_kind (sign_of_assign o) k.Dot ≡ false
 assign-no_dot assign.Set = refl
-assign-no_dot assign.Add = refl
-assign-no_dot assign.Subtract = refl
+assign-no_dot _ = refl
 
 assign-no_call : (o : AssignOp) → same_kind (sign_of_assign o) k.LParen ≡ false
 assign-no_call assign.Set = refl
-assign-no_call assign.Add = refl
-assign-no_call assign.Subtract = refl
+assign-no_call _ = refl
 
 step-no_dot : (o : StepOp) → same_kind (sign_of_step o) k.Dot ≡ false
 step-no_dot step.Increment = refl
@@ -127,8 +106,7 @@ step-no_call step.Decrement = refl
 
 posted-assign : (room : ℕ) (y : Tall) (o : AssignOp) → posted_by room y (Some (sign_of_assign o)) ≡ assigned room y o
 posted-assign room y assign.Set = refl
-posted-assign room y assign.Add = refl
-posted-assign room y assign.Subtract = refl
+posted-assign room y _ = refl
 
 posted-step : (room : ℕ) (y : Tall) (o : StepOp) → posted_by room y (Some (sign_of_step o)) ≡ stepped room y o
 posted-step room y step.Increment = refl

@@ -1,35 +1,23 @@
 -- The two laws of the reader over tokens, as its functions need them.
-use Rattle.std.proofs.Common.{◌≡◌, ◌≢◌, ℕ, List, Result, Ok, Err, IfOk, refl, ◌∙◌, sym}
-use Rattle.java_tree.specs.declared.token.Token.{Token}
-use Rattle.java_tree.specs.declared.stmt.Block.{Block}
+use Rattle.std.proofs.Common.{◌≡◌, ℕ, List, Result, IfOk}
+use Rattle.java_phrases.specs.Tree.{Token, Block}
+use Rattle.java_phrases.specs.Common.{Steps, ahead, Found, Gives}
 use Rattle.java_phrases.specs.declared.error.SyntaxError.{SyntaxError}
-use Rattle.java_phrases.specs.declared.error.SyntaxError.TheVariants as error
 use Rattle.java_phrases.specs.declared.tokens.Tokens.{Tokens}
-use Rattle.java_phrases.specs.Cursor.{Steps, ahead}
-use Rattle.java_phrases.specs.Parser.{Found, Lost}
+use Rattle.java_phrases.proofs.Answered.{gives, steps-found, one-found}
 use Rattle.java_statements.specs.Spelling.{BlockSpells}
 use Rattle.java_statements.specs.Reading.{block}
-use Rattle.java_phrases.specs.Answers.{Gives}
 use Rattle.java_statements.proofs.Sound.{sound}
 use Rattle.java_statements.proofs.Complete.{complete}
 
+block-sound : (limit : ℕ) (ts rest : List Token) (b : Block) → block limit ts ≡ Found b rest → BlockSpells limit b ts rest
+block-sound limit ts rest b e = ((sound limit).1 ts rest b e).0
+
 pub found_block : (limit : ℕ) (r : Result Block SyntaxError) (old new : Tokens) → Steps (block limit) old r new → IfOk r (λ b. BlockSpells limit b (ahead old) (ahead new))
-found_block limit (Ok b) old new (is, kept) = ((sound limit).1 (ahead old) (ahead new) b is).0
-found_block limit (Err e) old new reads = tt
+found_block limit r old new = steps-found (BlockSpells limit) (block limit) (block-sound limit) old new r
 
 pub only_block : (limit : ℕ) (r : Result Block SyntaxError) (old new : Tokens) → Steps (block limit) old r new → (b : Block) (rest : List Token) → BlockSpells limit b (ahead old) rest → Gives r (ahead new) b rest
-only_block limit (Ok found) old new (is, kept) b rest s =
-    let same : Found found (ahead new) ≡ Found b rest = sym is ∙ (complete limit).1 b (ahead old) rest s in
-    (cc, cc)
-only_block limit (Err error.NotSpelled) old new reads b rest s =
-    let other : error.NotSpelled ≢ error.OutOfMemory = λ e. cc in
-    let lost : block limit (ahead old) ≡ Lost = reads other in
-    let same : Lost ≡ Found b rest = sym lost ∙ (complete limit).1 b (ahead old) rest s in
-    cc
-only_block limit (Err error.OutOfMemory) old new reads b rest s = refl
-
-same_found : (one other : Block) (rest other_rest : List Token) → Found one rest ≡ Found other other_rest → (one ≡ other) × (rest ≡ other_rest)
-same_found one other rest other_rest same = (cc, cc)
+only_block limit r old new reads b rest s = gives (block limit) old new r reads b rest ((complete limit).1 b (ahead old) rest s)
 
 pub one_block : (limit : ℕ) (ts rest other_rest : List Token) (one other : Block) → BlockSpells limit one ts rest → BlockSpells limit other ts other_rest → (one ≡ other) × (rest ≡ other_rest)
-one_block limit ts rest other_rest one other s t = same_found one other rest other_rest (sym ((complete limit).1 one ts rest s) ∙ (complete limit).1 other ts other_rest t)
+one_block limit ts rest other_rest one other = one-found (BlockSpells limit) (block limit) (complete limit).1 one other ts rest other_rest

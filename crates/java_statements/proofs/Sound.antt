@@ -1,20 +1,11 @@
 -- What the readers of statements and blocks find, the tokens spell.
 use Rattle.std.proofs.Common.{◌≡◌, ℕ, zero, suc, ◌<◌, ◌≤◌, Bool, true, false, List, [], ◌∷◌, ◌++◌, length, Option, Some, None, refl, sym, subst, arith}
-use Rattle.desk_base.specs.declared.span.Span.{Span}
-use Rattle.java_tree.specs.declared.kind.Kind.{Kind}
-use Rattle.java_tree.specs.declared.kind.Kind.TheVariants as k
-use Rattle.java_tree.specs.declared.token.Token.{Token}
-use Rattle.java_tree.specs.declared.expr.Expr.{Expr}
-use Rattle.java_tree.specs.declared.stmt.Stmt.{Stmt, out-Stmt}
+use Rattle.java_phrases.specs.Tree.{Span, Kind, Kind as k, Token, Expr, Stmt, out-Stmt, Block, out-Block, roll-Block, out-roll-Block, BlockItem, out-BlockItem, Stmt-F, BlockItem-F, Block-F}
+use Rattle.java_phrases.specs.Common.{Phrase, Sign, Each, Found, Parser, ◌>>=◌, pure, sees, next_kind, sign}
 use Rattle.java_tree.specs.declared.stmt.Stmt.TheVariants as tree
 use Rattle.java_tree.specs.declared.stmt.Stmt.TheVariants.{outs-Block, outs-Empty, outs-Action, outs-If, outs-While, outs-For, outs-Sync, outs-Return}
-use Rattle.java_tree.specs.declared.stmt.Block.{Block, out-Block, roll-Block, out-roll-Block}
-use Rattle.java_tree.specs.declared.stmt.BlockItem.{BlockItem, out-BlockItem}
 use Rattle.java_tree.specs.declared.stmt.BlockItem.TheVariants as item
 use Rattle.java_tree.specs.declared.stmt.BlockItem.TheVariants.{outs-Local, outs-Stmt}
-use Rattle.java_tree.specs.declared.stmt.BlockItem.TheOpen.{Stmt-F, BlockItem-F, Block-F}
-use Rattle.java_phrases.specs.Phrase.{Phrase, Sign, Each}
-use Rattle.java_phrases.specs.Parser.{Found, Parser, ◌>>=◌, pure, sees, next_kind, sign}
 use Rattle.java_phrases.proofs.Phrases.{and_then-some, pure-is, sign-sound, mark-sign}
 use Rattle.java_expressions.proofs.Sound.{sign-shorter, turns-sound}
 use Rattle.java_statements.specs.Spelling.{ItemSpells, BlockBy, StmtBy, StmtSpells, BlockSpells}

@@ -3,33 +3,11 @@ use Rattle.std.proofs.Common.{◌≡◌, ℕ, zero, suc, ◌+◌, ◌<◌, ◌�
 use Rattle.std.proofs.lemmas.Bool.{ltb-false}
 use Rattle.std.specs.Str.{bytes_eq}
 use Rattle.std.proofs.lemmas.Slice.Eq.{bytes_eq-Decides}
-use Rattle.desk_base.specs.declared.span.Span.{Span}
-use Rattle.java_tree.specs.declared.kind.Kind.{Kind}
-use Rattle.java_tree.specs.declared.kind.Kind.TheVariants as k
-use Rattle.java_tree.specs.declared.token.Token.{Token}
-use Rattle.java_tree.specs.declared.token.Lexeme.{Lexeme}
-use Rattle.java_tree.specs.declared.expr.Expr.{Expr, out-Expr}
-use Rattle.java_tree.specs.declared.expr.Expr.TheOpen.{Expr-F}
-use Rattle.java_tree.specs.declared.stmt.AssignOp.{AssignOp}
-use Rattle.java_tree.specs.declared.stmt.AssignOp.TheVariants as assign
-use Rattle.java_tree.specs.declared.stmt.StepOp.{StepOp}
-use Rattle.java_tree.specs.declared.stmt.StepOp.TheVariants as step
-use Rattle.java_tree.specs.declared.stmt.Action.{Action}
-use Rattle.java_tree.specs.declared.stmt.Action.TheVariants as action
-use Rattle.java_tree.specs.declared.stmt.Local.{Local}
-use Rattle.java_tree.specs.declared.stmt.ForFirst.{ForFirst}
-use Rattle.java_tree.specs.declared.stmt.ForFirst.TheVariants as first
-use Rattle.java_tree.specs.declared.stmt.Monitor.{Monitor}
-use Rattle.java_tree.specs.declared.stmt.Monitor.TheVariants as monitor
-use Rattle.java_tree.specs.declared.member.Ty.{Ty}
-use Rattle.java_tree.specs.declared.member.Ty.TheVariants as type
-use Rattle.java_phrases.specs.Phrase.{◌⨾◌, Mark, Sign, Spelled, Named, Optional}
-use Rattle.java_phrases.specs.Types.{TySpells, ty}
-use Rattle.java_phrases.specs.Parser.{Found, Lost, ◌>>=◌, pure, fail, same_kind, next_kind, sees, sees_text, sign, word}
+use Rattle.java_phrases.specs.Tree.{Span, Kind, Kind as k, Token, Lexeme, Expr, out-Expr, Expr-F, AssignOp, AssignOp as assign, StepOp, StepOp as step, Action, Action as action, Local, ForFirst, ForFirst as first, Monitor, Monitor as monitor, Ty, Ty as type}
+use Rattle.java_phrases.specs.Common.{◌⨾◌, Mark, Sign, Spelled, Named, Optional, TySpells, ty, Found, Lost, ◌>>=◌, pure, fail, same_kind, next_kind, sees, sees_text, sign, word, thread_name}
 use Rattle.java_phrases.proofs.Phrases.{and_then-some, pure-is, sign-sound, word-sound, mark-sign}
 use Rattle.java_phrases.proofs.TypeLaws.{ty-sound}
 use Rattle.java_expressions.specs.declared.tall.Tall.{Tall}
-use Rattle.java_phrases.specs.Texts.{thread_name}
 use Rattle.java_expressions.specs.Spelling.{Layered, Spells, ExprSpells, PostSpells}
 use Rattle.java_expressions.specs.Reading.{expr, post_read}
 use Rattle.java_expressions.proofs.Sound.{IsNode, sign-shorter, word-shorter, expr-sound, post_read-sound}

@@ -2,28 +2,9 @@
 use Rattle.std.proofs.Common.{◌≡◌, ◌≢◌, ℕ, zero, suc, ◌+◌, ◌≤◌, Bool, true, false, ◌&&◌, List, [], ◌∷◌, Option, Some, None, refl, ap, ◌∙◌, sym, subst, arith, lit≤}
 use Rattle.std.specs.Str.{bytes_eq}
 use Rattle.std.proofs.lemmas.Slice.Eq.{bytes_eq-Decides}
-use Rattle.desk_base.specs.declared.span.Span.{Span}
-use Rattle.java_tree.specs.declared.kind.Kind.{Kind}
-use Rattle.java_tree.specs.declared.kind.Kind.TheVariants as k
-use Rattle.java_tree.specs.declared.token.Token.{Token}
-use Rattle.java_tree.specs.declared.token.Lexeme.{Lexeme}
-use Rattle.java_tree.specs.declared.expr.Expr.{Expr, out-Expr}
-use Rattle.java_tree.specs.declared.expr.Expr.TheOpen.{Expr-F}
-use Rattle.java_tree.specs.declared.expr.BinaryOp.{BinaryOp}
-use Rattle.java_tree.specs.declared.expr.BinaryOp.TheVariants as op
-use Rattle.java_tree.specs.declared.stmt.AssignOp.{AssignOp}
-use Rattle.java_tree.specs.declared.stmt.AssignOp.TheVariants as assign
-use Rattle.java_tree.specs.declared.stmt.StepOp.{StepOp}
-use Rattle.java_tree.specs.declared.stmt.StepOp.TheVariants as step
-use Rattle.java_tree.specs.declared.stmt.Action.{Action}
-use Rattle.java_tree.specs.declared.stmt.Action.TheVariants as action
-use Rattle.java_tree.specs.declared.member.Ty.{Ty}
-use Rattle.java_tree.specs.declared.member.Ty.TheVariants as type
-use Rattle.java_phrases.specs.Phrase.{Mark, Sign, Spelled, Optional}
-use Rattle.java_phrases.specs.Types.{TySpells}
-use Rattle.java_phrases.specs.Parser.{same_kind, next_kind, kind_at, text_at, sees}
+use Rattle.java_phrases.specs.Tree.{Span, Kind, Kind as k, Token, Lexeme, Expr, out-Expr, Expr-F, BinaryOp, BinaryOp as op, AssignOp, AssignOp as assign, StepOp, StepOp as step, Action, Action as action, Ty, Ty as type}
+use Rattle.java_phrases.specs.Common.{Mark, Sign, Spelled, Optional, TySpells, same_kind, next_kind, kind_at, text_at, sees, thread_name}
 use Rattle.java_phrases.proofs.Phrases.{same_is, seen, sees-next, next-sign, next-mark, next-word}
-use Rattle.java_phrases.specs.Texts.{thread_name}
 use Rattle.java_expressions.specs.Spelling.{sign_of, level_of, Layered, Spells}
 use Rattle.java_expressions.proofs.Sound.{next-level}
 use Rattle.java_expressions.proofs.Complete.{sees-kind}
@@ -32,22 +13,7 @@ use Rattle.java_statements.specs.Reading.{begins_local_by, begins_local, names_c
 
 -- ---- kinds
 
--- the kinds of the tokens with which an expression begins
-abbrev pub begins_value : Kind → Bool
-begins_value k.IntLiteral = true
-begins_value k.StrLiteral = true
-begins_value k.True = true
-begins_value k.False = true
-begins_value k.Null = true
-begins_value k.This = true
-begins_value k.Name = true
-begins_value k.New = true
-begins_value k.LParen = true
-begins_value k.Not = true
-begins_value k.Minus = true
-begins_value _ = false
-
--- the same without a sign before it
+-- the kinds of the tokens with which an expression without a sign before it begins
 abbrev pub begins_post : Kind → Bool
 begins_post k.IntLiteral = true
 begins_post k.StrLiteral = true
@@ -60,47 +26,26 @@ begins_post k.New = true
 begins_post k.LParen = true
 begins_post _ = false
 
+-- those of any expression
+abbrev pub begins_value : Kind → Bool
+begins_value k.Not = true
+begins_value k.Minus = true
+begins_value kind = begins_post kind
+
 -- those of an action
 abbrev pub begins_action : Kind → Bool
-begins_action k.IntLiteral = true
-begins_action k.StrLiteral = true
-begins_action k.True = true
-begins_action k.False = true
-begins_action k.Null = true
-begins_action k.This = true
-begins_action k.Name = true
-begins_action k.New = true
-begins_action k.LParen = true
 begins_action k.Increment = true
 begins_action k.Decrement = true
-begins_action _ = false
+begins_action kind = begins_post kind
 
 post-action : (kind : Kind) → begins_post kind ≡ true → begins_action kind ≡ true
-post-action k.IntLiteral e = refl
-post-action k.StrLiteral e = refl
-post-action k.True e = refl
-post-action k.False e = refl
-post-action k.Null e = refl
-post-action k.This e = refl
-post-action k.Name e = refl
-post-action k.New e = refl
-post-action k.LParen e = refl
-post-action _ e = cc
+post-action k.Increment e = refl
+post-action k.Decrement e = refl
+post-action _ e = e
 
 no_name : (o : BinaryOp) → same_kind (sign_of o) k.Name ≡ false
 no_name op.Or = refl
-no_name op.And = refl
-no_name op.Equal = refl
-no_name op.NotEqual = refl
-no_name op.Less = refl
-no_name op.Greater = refl
-no_name op.AtMost = refl
-no_name op.AtLeast = refl
-no_name op.Add = refl
-no_name op.Subtract = refl
-no_name op.Multiply = refl
-no_name op.Divide = refl
-no_name op.Remainder = refl
+no_name _ = refl
 
 -- ---- the second and third token
 
@@ -125,18 +70,7 @@ dot_class second third = names_class_by (Some k.Name) second third
 
 class-operator : (o : BinaryOp) (third : Option Kind) → dot_class (Some (sign_of o)) third ≡ false
 class-operator op.Or third = refl
-class-operator op.And third = refl
-class-operator op.Equal third = refl
-class-operator op.NotEqual third = refl
-class-operator op.Less third = refl
-class-operator op.Greater third = refl
-class-operator op.AtMost third = refl
-class-operator op.AtLeast third = refl
-class-operator op.Add third = refl
-class-operator op.Subtract third = refl
-class-operator op.Multiply third = refl
-class-operator op.Divide third = refl
-class-operator op.Remainder third = refl
+class-operator _ third = refl
 
 local-plain : (kind : Kind) (second : Option Kind) → begins_value kind ≡ true → same_kind kind k.Name ≡ false → begins_local_by (Some kind) second ≡ false
 local-plain k.Final second on off = cc
@@ -310,8 +244,7 @@ target-opening room e ts rest s = target_by-opening room e (out-Expr e) ts rest 
 
 assign-no_name : (o : AssignOp) → same_kind (sign_of_assign o) k.Name ≡ false
 assign-no_name assign.Set = refl
-assign-no_name assign.Add = refl
-assign-no_name assign.Subtract = refl
+assign-no_name _ = refl
 
 step-no_name : (o : StepOp) → same_kind (sign_of_step o) k.Name ≡ false
 step-no_name step.Increment = refl

@@ -1,8 +1,7 @@
 -- The loop over the items of a block, turn by turn.
 use Rattle.std.proofs.Common.{◌≡◌, ℕ, ◌<◌, true, List, [], ◌∷◌, ◌++◌, length, refl, sym, subst}
-use Rattle.java_tree.specs.declared.token.Token.{Token}
-use Rattle.java_tree.specs.declared.stmt.BlockItem.{BlockItem}
-use Rattle.java_phrases.specs.Parser.{Found, Lost, turns}
+use Rattle.java_phrases.specs.Tree.{Token, BlockItem}
+use Rattle.java_phrases.specs.Common.{Found, Lost, turns}
 use Rattle.java_phrases.proofs.Loops.{Continues, begins, turn_goes, loop_fails}
 use Rattle.java_statements.specs.Reading.{goes_on, one_more, block_item, statement}
 use Rattle.java_statements.proofs.Sound.{block_item-sound, sound}

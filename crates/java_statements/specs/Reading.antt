@@ -1,33 +1,10 @@
 -- The reader as functions on lists of tokens: each says what the function of its name in the code
 -- answers. That this is the spelling, both ways, is what the public clauses say.
 use Rattle.std.specs.Prelude.{ℕ, zero, suc, ◌+◌, nat_lt, not, Bool, true, false, if◌then◌else◌, List, [], ◌∷◌, ◌++◌, Option, Some, None}
-use Rattle.desk_base.specs.declared.span.Span.{Span}
-use Rattle.java_tree.specs.declared.kind.Kind.{Kind}
-use Rattle.java_tree.specs.declared.kind.Kind.TheVariants as k
-use Rattle.java_tree.specs.declared.token.Token.{Token}
-use Rattle.java_tree.specs.declared.token.Lexeme.{Lexeme}
-use Rattle.java_tree.specs.declared.expr.Expr.{Expr, out-Expr}
-use Rattle.java_tree.specs.declared.expr.Expr.TheOpen.{Expr-F}
-use Rattle.java_tree.specs.declared.member.Ty.{Ty}
-use Rattle.java_tree.specs.declared.stmt.AssignOp.{AssignOp}
-use Rattle.java_tree.specs.declared.stmt.AssignOp.TheVariants as assign
-use Rattle.java_tree.specs.declared.stmt.StepOp.{StepOp}
-use Rattle.java_tree.specs.declared.stmt.StepOp.TheVariants as step
-use Rattle.java_tree.specs.declared.stmt.Action.{Action}
-use Rattle.java_tree.specs.declared.stmt.Action.TheVariants as action
-use Rattle.java_tree.specs.declared.stmt.Local.{Local}
-use Rattle.java_tree.specs.declared.stmt.ForFirst.{ForFirst}
-use Rattle.java_tree.specs.declared.stmt.ForFirst.TheVariants as first
-use Rattle.java_tree.specs.declared.stmt.Monitor.{Monitor}
-use Rattle.java_tree.specs.declared.stmt.Monitor.TheVariants as monitor
-use Rattle.java_tree.specs.declared.stmt.Stmt.{Stmt}
+use Rattle.java_phrases.specs.Tree.{Span, Kind, Kind as k, Token, Lexeme, Expr, out-Expr, Expr-F, Ty, AssignOp, AssignOp as assign, StepOp, StepOp as step, Action, Action as action, Local, ForFirst, ForFirst as first, Monitor, Monitor as monitor, Stmt, Block, roll-Block, BlockItem}
+use Rattle.java_phrases.specs.Common.{ty, Parser, Found, Lost, ◌>>=◌, ◌>>◌, pure, fail, next_kind, kind_at, text_at, peek, look, sees, sees_text, sign, word, turns, thread_name}
 use Rattle.java_tree.specs.declared.stmt.Stmt.TheVariants as tree
-use Rattle.java_tree.specs.declared.stmt.Block.{Block, roll-Block}
-use Rattle.java_tree.specs.declared.stmt.BlockItem.{BlockItem}
 use Rattle.java_tree.specs.declared.stmt.BlockItem.TheVariants as item
-use Rattle.java_phrases.specs.Types.{ty}
-use Rattle.java_phrases.specs.Parser.{Parser, Found, Lost, ◌>>=◌, ◌>>◌, pure, fail, next_kind, kind_at, text_at, peek, look, sees, sees_text, sign, word, turns}
-use Rattle.java_phrases.specs.Texts.{thread_name}
 use Rattle.java_expressions.specs.Reading.{expr, post_read}
 use Rattle.java_expressions.specs.declared.tall.Tall.{Tall}
 use Rattle.java_statements.specs.declared.head.ForHead.{ForHead}

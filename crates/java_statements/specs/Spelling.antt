@@ -1,30 +1,8 @@
 -- Which tokens spell which statement: one clause for each production of the grammar (JLS 8, 14, as
 -- far as the subset goes).
-use Rattle.std.specs.Prelude.{◌≡◌, ℕ, zero, suc, List, ◌∷◌, Bool, true, false, Option, Some, None, IsTrue, IsFalse, codes}
-use Rattle.desk_base.specs.declared.span.Span.{Span}
-use Rattle.java_tree.specs.declared.kind.Kind.{Kind}
-use Rattle.java_tree.specs.declared.kind.Kind.TheVariants as k
-use Rattle.java_tree.specs.declared.token.Token.{Token}
-use Rattle.java_tree.specs.declared.expr.Expr.{Expr, out-Expr}
-use Rattle.java_tree.specs.declared.expr.Expr.TheOpen.{Expr-F}
-use Rattle.java_tree.specs.declared.stmt.AssignOp.{AssignOp}
-use Rattle.java_tree.specs.declared.stmt.AssignOp.TheVariants as assign
-use Rattle.java_tree.specs.declared.stmt.StepOp.{StepOp}
-use Rattle.java_tree.specs.declared.stmt.StepOp.TheVariants as step
-use Rattle.java_tree.specs.declared.stmt.Action.{Action}
-use Rattle.java_tree.specs.declared.stmt.Action.TheVariants as action
-use Rattle.java_tree.specs.declared.stmt.Local.{Local}
-use Rattle.java_tree.specs.declared.stmt.ForFirst.{ForFirst}
-use Rattle.java_tree.specs.declared.stmt.ForFirst.TheVariants as first
-use Rattle.java_tree.specs.declared.stmt.Monitor.{Monitor}
-use Rattle.java_tree.specs.declared.stmt.Monitor.TheVariants as monitor
-use Rattle.java_tree.specs.declared.stmt.Stmt.{Stmt, out-Stmt}
-use Rattle.java_tree.specs.declared.stmt.Block.{Block, out-Block}
-use Rattle.java_tree.specs.declared.stmt.BlockItem.{BlockItem, out-BlockItem}
-use Rattle.java_tree.specs.declared.stmt.BlockItem.TheOpen.{Stmt-F, BlockItem-F, Block-F}
-use Rattle.java_phrases.specs.Phrase.{Phrase, Nothing, ◌⨾◌, ◌⊢◌, Never, Mark, Sign, Spelled, Each, Named, Optional}
-use Rattle.java_phrases.specs.Types.{TySpells}
-use Rattle.java_phrases.specs.Texts.{thread_name}
+use Rattle.std.specs.Prelude.{ℕ, zero, suc, List, Bool, true, false, Option, Some, None, IsTrue, IsFalse, codes}
+use Rattle.java_phrases.specs.Tree.{Span, Kind, Kind as k, Expr, out-Expr, Expr-F, AssignOp, AssignOp as assign, StepOp, StepOp as step, Action, Action as action, Local, ForFirst, ForFirst as first, Monitor, Monitor as monitor, Stmt, out-Stmt, Block, out-Block, BlockItem, out-BlockItem, Stmt-F, BlockItem-F, Block-F}
+use Rattle.java_phrases.specs.Common.{Phrase, Nothing, ◌⨾◌, ◌⊢◌, Never, Mark, Sign, Spelled, Each, Named, Optional, TySpells, thread_name}
 use Rattle.java_expressions.specs.Spelling.{ExprSpells, PostSpells}
 
 -- ---- parts of productions

@@ -7,5 +7,7 @@ pub mod Peeling
 pub mod Piece
 pub mod Promise
 pub mod Reading
+pub mod Same
+pub mod SameTree
 pub mod Split
 pub mod Word

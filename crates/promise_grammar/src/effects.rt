@@ -1,4 +1,6 @@
-ghost use Rattle.std.specs.Prelude.{◌≡◌};
+ghost use Rattle.std.specs.Prelude.{◌≡◌, ◌↔◌, IsTrue};
+ghost use Rattle.std.specs.Cmp.{decided, partial_equiv_from_equiv};
+ghost use Rattle.promise_grammar.specs.Same as spec;
 ghost use Rattle.promise_grammar.specs.Outcome.{Found, Reads};
 ghost use Rattle.promise_grammar.specs.Reading as read;
 
@@ -24,6 +26,31 @@ pub enum EffectTarget {
 pub struct EffectsContent {
     pub reads: Items<EffectTarget>,
     pub writes: Items<EffectTarget>,
+}
+
+fn same_effects(one: &EffectsContent, other: &EffectsContent) -> bool
+    ensures { result ≡ spec.same_effects one.now other.now }
+{
+    one.reads.as_slice() == other.reads.as_slice()
+        && one.writes.as_slice() == other.writes.as_slice()
+}
+
+impl PartialEq for EffectsContent {
+    ghost eq = { spec.same_effects };
+
+    ghost laws = { partial_equiv_from_equiv (decided spec.same_effects spec.effects_decides) };
+
+    /// True exactly where the two are equal.
+    fn eq(&self, other: &EffectsContent) -> bool
+        ensures value { result ≡ spec.same_effects self.now other.now }
+        ensures exact { IsTrue result ↔ (self.now ≡ other.now) }
+    {
+        same_effects(self, other)
+    }
+}
+
+impl Eq for EffectsContent {
+    ghost laws = { decided spec.same_effects spec.effects_decides };
 }
 
 /// Reads what follows `any` and its parenthesis.

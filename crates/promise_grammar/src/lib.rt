@@ -15,6 +15,7 @@ mod pieces;
 mod plain;
 mod read;
 mod region;
+mod same;
 mod scope;
 mod shared;
 mod split;

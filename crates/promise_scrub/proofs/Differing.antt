@@ -21,7 +21,7 @@ key_given key offers = list_any (λ a. nat_eq (number_of a.name) (number_of key.
 abbrev key_of : List ℕ → Offer → PromiseKey
 key_of target o = record { target = target; name = o.name; detail = o.detail }
 
-lacks_append : (key : PromiseKey) (xs ys : List Standing) → LacksKey key xs → LacksKey key ys → LacksKey key (xs ++ ys)
+pub lacks_append : (key : PromiseKey) (xs ys : List Standing) → LacksKey key xs → LacksKey key ys → LacksKey key (xs ++ ys)
 lacks_append key [] ys a b = b
 lacks_append key (x ∷ xs) ys a b = (a.0, lacks_append key xs ys a.1 b)
 

@@ -1,8 +1,13 @@
+pub mod Apart
 pub mod Differing
 pub mod Facing
+pub mod FromUnits
 pub mod Gathering
 pub mod Keeping
 pub mod Looking
 pub mod Numbering
+pub mod Origins
 pub mod SeenAlike
 pub mod Single
+pub mod StandingLocks
+pub mod StandingRegions

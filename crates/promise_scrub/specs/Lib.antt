@@ -3,6 +3,8 @@ pub mod Counted
 pub mod Differ
 pub mod Found
 pub mod Members
+pub mod Same
+pub mod Standing
 pub mod Steps
 pub mod Surfaces
 pub mod Texts

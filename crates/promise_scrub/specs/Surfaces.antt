@@ -10,7 +10,7 @@ use Rattle.promise_grammar.specs.declared.member.MemberName.{MemberName}
 use Rattle.promise_grammar.specs.declared.member.MemberName.TheVariants as member_of
 use Rattle.promise_grammar.specs.declared.tree.PromiseTree.{PromiseTree, out-PromiseTree}
 use Rattle.promise_grammar.specs.declared.tree.PromiseTree.TheOpen.{PromiseTree-F}
-use Rattle.class_faces.specs.Keys.{text_of, member_keys, counted}
+use Rattle.class_faces.specs.Keys.{text_of, member_key, member_keys, counted}
 use Rattle.class_faces.specs.Faces.{field_faces, member_faces, named_params}
 use Rattle.promise_marks.specs.declared.mark.Mark.{Mark}
 use Rattle.promise_marks.specs.Given.{by_header, by_member}
@@ -52,21 +52,19 @@ assumed_site member_of.New = at.Ctor
 abbrev pub member_text : MemberContent → List ℕ
 member_text m = counted (member_name m.name) m.count
 
-abbrev pub assumed_target : MemberContent → List ℕ
-assumed_target m = m.class ++ codes "." ++ member_text m
+abbrev pub shown_member : MemberContent → List ℕ
+shown_member m = text_of (member_text m)
 
-abbrev pub member_key : MemberContent → List ℕ
-member_key m = text_of (member_text m)
-
+-- the key of an assumed promise, at the first member of that name and number of parameters
 abbrev pub assumed_key : MemberContent → Offer → PromiseKey
-assumed_key m offer = record { target = text_of (assumed_target m); name = offer.name; detail = offer.detail }
+assumed_key m offer = record { target = member_key m.class (member_name m.name) (Some m.count) 1; name = offer.name; detail = offer.detail }
 
 -- an assumed promise, under the key that it has at the member
 abbrev pub assumption_with : MemberContent → Offer → Option PromiseTree → List Assumption
 assumption_with m offer None = []
 assumption_with m offer (Some tree) = record {
   class = m.class;
-  member = member_key m;
+  member = shown_member m;
   key = assumed_key m offer;
   tree = tree;
 } ∷ []

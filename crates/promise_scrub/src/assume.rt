@@ -6,7 +6,7 @@ ghost use Rattle.scrub_rules.specs.Offers.{flat};
 ghost use Rattle.promise_scrub.specs.Surfaces as spec;
 
 use crate::surface::Assumption;
-use class_faces::text_of;
+use class_faces::{member_key, text_of};
 use desk_base::{Bytes, Items, OutOfMemory, PromiseKey, Text};
 use itoa::Buffer;
 use promise_grammar::{MemberContent, MemberName, PromiseTree, Shared};
@@ -43,16 +43,6 @@ fn member_text(alloc: Global, member: &MemberContent) -> Result<Bytes, OutOfMemo
     Ok(text)
 }
 
-fn assumed_target(alloc: Global, member: &MemberContent) -> Result<Bytes, OutOfMemory>
-    ensures { IfOk result (λ text. text ≡ spec.assumed_target member.now) }
-{
-    let text = member_text(alloc, member)?;
-    let mut target = Bytes::from_slice(alloc, member.class.as_slice())?;
-    target.append(b".")?;
-    target.append(text.as_slice())?;
-    Ok(target)
-}
-
 fn assumed_at(name: &MemberName) -> Site
     ensures { result ≡ spec.assumed_at name.now }
 {
@@ -70,16 +60,17 @@ fn assumed_key(
 ) -> Result<PromiseKey, OutOfMemory>
     ensures { IfOk result (λ key. key ≡ spec.assumed_key member.now offer.now) }
 {
-    let target = assumed_target(alloc, member)?;
+    let class = member.class.as_slice();
+    let name = member_name(&member.name);
     Ok(PromiseKey {
-        target: text_of(alloc, target.as_slice())?,
+        target: member_key(alloc, class, name, Some(member.count as usize), 1)?,
         name: offer.name,
         detail: offer.detail.clone()?,
     })
 }
 
-fn member_key(alloc: Global, member: &MemberContent) -> Result<Text, OutOfMemory>
-    ensures { IfOk result (λ text. text ≡ spec.member_key member.now) }
+fn shown_member(alloc: Global, member: &MemberContent) -> Result<Text, OutOfMemory>
+    ensures { IfOk result (λ text. text ≡ spec.shown_member member.now) }
 {
     let text = member_text(alloc, member)?;
     text_of(alloc, text.as_slice())
@@ -101,7 +92,7 @@ fn put_assumption(
             let tree = Shared::new(alloc, tree)?;
             out.push(Assumption {
                 class: member.class.clone()?,
-                member: member_key(alloc, member)?,
+                member: shown_member(alloc, member)?,
                 key: assumed_key(alloc, member, offer)?,
                 tree,
             })?;

@@ -18,9 +18,12 @@ mod tags;
 mod texts;
 mod unit;
 
-pub use class_faces::{FaceTy, FieldFace, MemberFace, ParamFace};
+pub use class_faces::{
+    FaceTy, FieldFace, MemberFace, ParamFace, keys_differ, keys_tell_classes, member_key,
+};
 pub use laws::{
-    listed_is_set_aside, one_surface, set_aside_is_listed, standing_keys_differ, surfaces_alike,
+    listed_is_set_aside, lock_fields_fit, lock_regions_apart, one_surface, promise_keys_differ,
+    regions_build, set_aside_is_listed, standing_keys_differ, surfaces_alike,
 };
 pub use region_tree::RegionDecl;
 pub use scrub::surface_of;

@@ -1,5 +1,5 @@
-use Rattle.std.proofs.Common.{◌≡◌, ◌<◌, ◌+◌, ℕ, List, Vec, Global, ap, arith, get_or, length, sym, ◌∙◌, subst, take}
-use Rattle.std.specs.Prelude.{None, Option, Some, find, true, false, Bool}
+use Rattle.std.proofs.Common.{◌≡◌, ◌<◌, ℕ, List, Vec, Global, ap, arith, get_or, length, sym, ◌∙◌, subst, take}
+use Rattle.std.specs.Prelude.{None, Option, find, true, false}
 use Rattle.consistency.specs.declared.graph.Link.{Link}
 use Rattle.consistency.specs.Tables.{leaf_in, missing, stays_all, step_by}
 use Rattle.consistency.proofs.Searching.{find_here, find_more}

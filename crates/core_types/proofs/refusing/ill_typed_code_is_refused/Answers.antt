@@ -1,4 +1,4 @@
-use Rattle.core_types.proofs.Refused.{no-negated, no-null, no-unset, no-over, no-unended, no-given, no-constructor-called, no-arguments, unit-of-its-class}
+use Rattle.core_types.proofs.Refused.{always-uncalled, no-negated, no-null, no-unset, no-over, no-unended, no-given, no-constructor-called, no-arguments, unit-of-its-class}
 use Rattle.core_types.proofs.refusing.ill_typed_code_is_refused.Goals as goal
 
 pub returns-clause-negated : goal.returns-clause-negated
@@ -27,3 +27,6 @@ returns-clause-made c = no-arguments
 
 pub returns-clause-listed : goal.returns-clause-listed
 returns-clause-listed c = unit-of-its-class
+
+pub returns-clause-uncalled : goal.returns-clause-uncalled
+returns-clause-uncalled c = always-uncalled

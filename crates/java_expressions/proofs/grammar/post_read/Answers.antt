@@ -1,6 +1,6 @@
 use Rattle.std.proofs.Common.{◌≡◌, ℕ, suc, ◌-◌, ap, sym, subst, arith}
 use Rattle.java_expressions.specs.Reading.{post_read}
-use Rattle.java_phrases.specs.Cursor.{ahead, Steps}
+use Rattle.java_phrases.specs.Common.{ahead, Steps}
 use Rattle.java_expressions.proofs.grammar.post_read.Goals as goal
 
 pub returns-then-limit-eq0 : goal.returns-then-limit-eq0

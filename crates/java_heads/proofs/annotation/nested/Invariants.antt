@@ -1,5 +1,5 @@
 use Rattle.std.proofs.Common.{◌≡◌, length}
-use Rattle.java_phrases.specs.Cursor.{ahead, from_start}
+use Rattle.java_phrases.specs.Common.{ahead, from_start}
 use Rattle.java_heads.proofs.NestLoop.{Turning}
 use Rattle.java_heads.proofs.annotation.nested.Given as goal
 

@@ -1,9 +1,10 @@
+use Rattle.java_phrases.proofs.Answered.{one-found}
 use Rattle.java_heads.specs.Spelling.{PackageSpells, ImportSpells, FieldParts, SigParts}
 use Rattle.java_heads.specs.Reading.{package_line, import_line, field, signature}
 use Rattle.java_heads.specs.Answers.{field_with, sig_with}
 use Rattle.java_heads.proofs.LineLaws.{package-complete, import-complete}
 use Rattle.java_heads.proofs.HeadingLaws.{one_heading}
-use Rattle.java_heads.proofs.Parts.{one-kept, one-found}
+use Rattle.java_heads.proofs.Parts.{one-kept}
 use Rattle.java_heads.proofs.ReaderLemmas.{field_tokens, field-part, sig_tokens, sig-part, one_header}
 use Rattle.java_heads.proofs.laws.one_part.Goals as goal
 

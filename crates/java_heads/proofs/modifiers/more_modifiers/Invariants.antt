@@ -1,6 +1,6 @@
 use Rattle.std.proofs.Common.{◌≡◌, length}
 use Rattle.java_heads.specs.Reading.{also, starts_mod, one_modifier}
-use Rattle.java_phrases.specs.Cursor.{ahead, from_start}
+use Rattle.java_phrases.specs.Common.{ahead, from_start}
 use Rattle.java_phrases.proofs.Loops.{Continues}
 use Rattle.java_heads.proofs.modifiers.more_modifiers.Given as goal
 

@@ -1,6 +1,6 @@
 use Rattle.std.proofs.Common.{refl, ◌∙◌, sym, rules}
-use Rattle.java_tree.specs.declared.kind.Kind.TheVariants as k
-use Rattle.java_phrases.specs.Parser.{sees}
+use Rattle.java_phrases.specs.Tree.{Kind as k}
+use Rattle.java_phrases.specs.Common.{sees}
 use Rattle.java_heads.specs.Reading.{after, parameter}
 use Rattle.java_phrases.proofs.Loops.{begins, turn_goes, loop_fails, loop_ends}
 use Rattle.java_heads.proofs.ParameterLaws.{parameter_after-shorter}

@@ -1,8 +1,7 @@
 use Rattle.std.proofs.Common.{◌≡◌, length}
-use Rattle.java_tree.specs.declared.kind.Kind.TheVariants as k
-use Rattle.java_phrases.specs.Parser.{sees}
+use Rattle.java_phrases.specs.Tree.{Kind as k}
+use Rattle.java_phrases.specs.Common.{sees, ahead, from_start}
 use Rattle.java_heads.specs.Reading.{after, parameter}
-use Rattle.java_phrases.specs.Cursor.{ahead, from_start}
 use Rattle.java_phrases.proofs.Loops.{Continues}
 use Rattle.java_heads.proofs.parameters.more_parameters.Given as goal
 

@@ -1,4 +1,4 @@
-use Rattle.java_phrases.specs.Cursor.{ahead}
+use Rattle.java_phrases.specs.Common.{ahead}
 use Rattle.java_heads.specs.Spelling.{FieldParts}
 use Rattle.java_heads.specs.Reading.{field}
 use Rattle.java_heads.specs.Answers.{field_with}

@@ -1,4 +1,4 @@
-use Rattle.java_phrases.specs.Cursor.{ahead}
+use Rattle.java_phrases.specs.Common.{ahead}
 use Rattle.java_heads.proofs.ReaderLemmas.{found_header, only_header}
 use Rattle.java_heads.proofs.reader.read_header.Goals as goal
 

@@ -1,4 +1,4 @@
-use Rattle.java_phrases.specs.Cursor.{ahead}
+use Rattle.java_phrases.specs.Common.{ahead}
 use Rattle.java_heads.specs.Spelling.{SigParts}
 use Rattle.java_heads.specs.Reading.{signature}
 use Rattle.java_heads.specs.Answers.{sig_with}

@@ -8,12 +8,12 @@ use Rattle.java_lexer.proofs.KindLemmas.{number_nothing}
 use Rattle.java_lexer.proofs.Pieces.{run_is, longest_run}
 use Rattle.java_lexer.proofs.front.run.Goals as goal
 
-pub word_kind-requires-clause-run : goal.word_kind-requires-clause-run
-word_kind-requires-clause-run c = subst (λ (n : ℕ). IsRun (take n c.args.text.now)) (sym c.run_len-len.ensures.value) (run_is c.args.text.now c.requires)
+pub kind_of_run-requires-clause-run : goal.kind_of_run-requires-clause-run
+kind_of_run-requires-clause-run c = subst (λ (n : ℕ). IsRun (take n c.args.text.now)) (sym c.run_len-len.ensures.value) (run_is c.args.text.now c.requires)
 
 pub returns-then-not-is_ascii_digit : goal.returns-then-not-is_ascii_digit
 returns-then-not-is_ascii_digit c =
-    (subst (λ (n : ℕ). Longest c.args.text.now n) (sym c.run_len-len.ensures.value) (longest_run c.args.text.now c.requires), c.word_kind.ensures)
+    (subst (λ (n : ℕ). Longest c.args.text.now n) (sym c.run_len-len.ensures.value) (longest_run c.args.text.now c.requires), c.kind_of_run.ensures)
 
 pub returns-then-is_int : goal.returns-then-is_int
 returns-then-is_int c =

@@ -1,5 +1,5 @@
 use Rattle.std.proofs.lemmas.Result.{err_from_is_err_and}
-use Rattle.java_phrases.specs.Cursor.{ahead}
+use Rattle.java_phrases.specs.Common.{ahead}
 use Rattle.java_members.proofs.Members.{whole-finds, whole-lost}
 use Rattle.java_members.proofs.body.whole.Goals as goal
 

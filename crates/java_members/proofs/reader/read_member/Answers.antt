@@ -1,4 +1,4 @@
-use Rattle.java_phrases.specs.Cursor.{ahead}
+use Rattle.java_phrases.specs.Common.{ahead}
 use Rattle.java_members.proofs.Members.{found_member, only_member}
 use Rattle.java_members.proofs.reader.read_member.Goals as goal
 

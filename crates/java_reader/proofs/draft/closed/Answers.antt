@@ -1,6 +1,6 @@
 use Rattle.std.proofs.lemmas.Result.{err_from_is_err_and}
-use Rattle.java_tree.specs.declared.kind.Kind.TheVariants as k
-use Rattle.java_phrases.specs.Cursor.{ahead}
+use Rattle.java_phrases.specs.Tree.{Kind as k}
+use Rattle.java_phrases.specs.Common.{ahead}
 use Rattle.java_heads.proofs.Lists.{mark-sound}
 use Rattle.java_reader.proofs.Advanced.{no-brace, closed-draft}
 use Rattle.java_reader.proofs.draft.closed.Goals as goal

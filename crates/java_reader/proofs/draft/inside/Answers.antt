@@ -1,5 +1,5 @@
 use Rattle.std.proofs.Common.{◌∙◌, sym}
-use Rattle.java_phrases.specs.Cursor.{ahead}
+use Rattle.java_phrases.specs.Common.{ahead}
 use Rattle.java_reader.proofs.Advanced.{closing-advances, inner-advances}
 use Rattle.java_reader.proofs.draft.inside.Goals as goal
 

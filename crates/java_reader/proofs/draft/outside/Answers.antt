@@ -1,5 +1,5 @@
 use Rattle.std.proofs.Common.{◌∙◌, sym}
-use Rattle.java_phrases.specs.Cursor.{ahead}
+use Rattle.java_phrases.specs.Common.{ahead}
 use Rattle.java_reader.proofs.Advanced.{package-advances, import-advances, header-advances}
 use Rattle.java_reader.proofs.draft.outside.Goals as goal
 

@@ -1,6 +1,6 @@
 use Rattle.std.proofs.Common.{sym, refl}
 use Rattle.std.proofs.lemmas.Result.{err_from_is_err_and}
-use Rattle.java_phrases.specs.Cursor.{ahead}
+use Rattle.java_phrases.specs.Common.{ahead}
 use Rattle.java_reader.proofs.Drafted.{begun-blank}
 use Rattle.java_reader.proofs.Looped.{shorter, preserved, fault, whole-found, whole-cause}
 use Rattle.java_reader.proofs.file.read_ahead.Goals as goal

@@ -1,5 +1,5 @@
 use Rattle.std.proofs.Common.{length}
-use Rattle.java_phrases.specs.Cursor.{ahead}
+use Rattle.java_phrases.specs.Common.{ahead}
 use Rattle.java_reader.proofs.Drafted.{Begun}
 use Rattle.java_reader.proofs.file.read_ahead.Given as goal
 

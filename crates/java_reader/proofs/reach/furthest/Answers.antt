@@ -1,5 +1,5 @@
 use Rattle.std.proofs.Common.{List, ◌≤◌, length, subst, arith}
-use Rattle.java_tree.specs.declared.token.Token.{Token}
+use Rattle.java_phrases.specs.Tree.{Token}
 use Rattle.java_reader.specs.Reach.{StandsIn}
 use Rattle.java_reader.proofs.Reached.{fault-within}
 use Rattle.java_reader.proofs.reach.furthest.Goals as goal

@@ -1,5 +1,5 @@
 use Rattle.std.proofs.Common.{◌≡◌, ℕ, suc, ◌-◌, ap, sym, subst, arith}
-use Rattle.java_phrases.specs.Cursor.{ahead, Steps}
+use Rattle.java_phrases.specs.Common.{ahead, Steps}
 use Rattle.java_statements.specs.Reading.{action_read}
 use Rattle.java_statements.proofs.actions.action.Goals as goal
 

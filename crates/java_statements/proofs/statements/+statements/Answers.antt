@@ -1,5 +1,5 @@
 use Rattle.std.proofs.Common.{◌≡◌, ℕ, suc, ◌-◌, not, refl, ap, ◌∙◌, sym, subst, arith, rules}
-use Rattle.java_phrases.specs.Cursor.{ahead, Steps}
+use Rattle.java_phrases.specs.Common.{ahead, Steps}
 use Rattle.java_phrases.proofs.Loops.{loop_ends}
 use Rattle.java_statements.specs.Reading.{goes_on, one_more, items, statement, block}
 use Rattle.java_statements.proofs.Turns.{start_is, item_more, item_fails, item-shorter}

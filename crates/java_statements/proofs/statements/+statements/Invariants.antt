@@ -1,5 +1,5 @@
 use Rattle.std.proofs.Common.{◌≡◌, ◌+◌, ◌*◌, length, []}
-use Rattle.java_phrases.specs.Cursor.{ahead, from_start}
+use Rattle.java_phrases.specs.Common.{ahead, from_start}
 use Rattle.java_phrases.proofs.Loops.{Continues}
 use Rattle.java_statements.specs.Reading.{goes_on, one_more, statement}
 use Rattle.java_statements.proofs.statements.+statements.Given as goal

@@ -1,7 +1,6 @@
 use Rattle.std.proofs.Common.{◌≡◌, is_some, refl, ap, ◌∙◌, sym, rules}
 use Rattle.java_expressions.specs.Reading.{climbs, climb, operation, expr}
-use Rattle.java_phrases.specs.Parser.{Lost, turns}
-use Rattle.java_phrases.specs.Cursor.{ahead}
+use Rattle.java_phrases.specs.Common.{Lost, turns, ahead}
 use Rattle.java_phrases.proofs.Loops.{begins, turn_goes, loop_fails, loop_ends}
 use Rattle.java_expressions.proofs.Heights.{operation-shorter, climb_is, climb_lost}
 use Rattle.java_expressions.proofs.grammar.Grammar.operations.Goals as goal

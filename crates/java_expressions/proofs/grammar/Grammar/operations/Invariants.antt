@@ -1,6 +1,6 @@
 use Rattle.std.proofs.Common.{◌≡◌, length}
 use Rattle.java_expressions.specs.Reading.{climbs, climb, expr}
-use Rattle.java_phrases.specs.Cursor.{ahead, from_start}
+use Rattle.java_phrases.specs.Common.{ahead, from_start}
 use Rattle.java_phrases.proofs.Loops.{Continues}
 use Rattle.java_expressions.proofs.grammar.Grammar.operations.Given as goal
 

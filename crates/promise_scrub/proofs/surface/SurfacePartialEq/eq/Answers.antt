@@ -1,0 +1,8 @@
+use Rattle.std.proofs.Common.{sym, ◌∙◌}
+use Rattle.promise_scrub.specs.Same.{surface_decides}
+use Rattle.promise_scrub.proofs.surface.SurfacePartialEq.eq.Goals as goal
+
+pub returns-clause-exact : goal.returns-clause-exact
+returns-clause-exact c =
+    let decides = surface_decides c.args.self.now c.args.other.now in
+    ((λ h. decides.0 (sym c.is_same.ensures ∙ h)), (λ e. c.is_same.ensures ∙ decides.1 e))
