@@ -1,0 +1,12 @@
+pub mod Codes
+pub mod Acts
+pub mod Flows
+pub mod Residues
+pub mod Readings
+pub mod Generic
+pub mod Bares
+pub mod ByOrigin
+pub mod Tables
+pub mod Endings
+pub mod LiveReads
+pub mod Stepping

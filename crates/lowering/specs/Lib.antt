@@ -1,0 +1,17 @@
+pub mod Code
+pub mod CodeOf
+pub mod CodeCoded
+pub mod CodeFalls
+pub mod Noted
+pub mod Lower
+pub mod Acts
+pub mod Steps
+pub mod Numbers
+pub mod CodeFlows
+pub mod Residue
+pub mod Bare
+pub mod Operands
+pub mod Kinds
+pub mod Origins
+pub mod Endings
+pub mod Laws
