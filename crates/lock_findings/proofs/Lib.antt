@@ -1,0 +1,4 @@
+pub mod Front
+pub mod Arguments
+pub mod Pushed
+pub mod Places
