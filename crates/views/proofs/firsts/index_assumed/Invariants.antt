@@ -1,0 +1,10 @@
+use Rattle.std.proofs.Common.{◌≤◌, length}
+use Rattle.views.specs.Indexes.{AssumedFrom}
+use Rattle.views.proofs.firsts.index_assumed.Given as goal
+
+-- those from `at` on are in the map
+abbrev pub invariant-loop-at : goal.invariant-loop-at
+invariant-loop-at l = record { within : l.at ≤ length l.assumptions; has : AssumedFrom l.index l.at l.assumptions }
+
+abbrev pub decreases-loop-at : goal.decreases-loop-at
+decreases-loop-at l = l.at

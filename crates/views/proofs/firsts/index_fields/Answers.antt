@@ -1,0 +1,14 @@
+use Rattle.std.proofs.Common.{ℕ, List, ap, sym, ◌∙◌, arith}
+use Rattle.std.specs.Str.{bytes_eq}
+use Rattle.class_faces.specs.declared.face.FieldFace.{FieldFace}
+use Rattle.views.proofs.Filling.{text_more}
+use Rattle.views.specs.Indexes.{field_is}
+use Rattle.views.proofs.firsts.index_fields.Goals as goal
+
+pub loop-at-preserved : goal.loop-at-preserved
+loop-at-preserved c = record {
+  within = let low = c.loop-at.invariant.within in omega arith;
+  has = text_more c.loop-at.index c.insert.new.self field_is c.loop-at.at c.args.fields.now c.index-fields-at.result c.in_ok-name.name
+      c.loop-at-test.true c.loop-at.invariant.within c.index-fields-at.is (λ q. ap (λ (k : List ℕ). bytes_eq k q) (c.in_ok-name.ensures.cases ∙ ap (λ (x : FieldFace). x.name) (sym c.index-fields-at.is)))
+      c.loop-at.invariant.has c.in_ok-insert.ensures.updates;
+}

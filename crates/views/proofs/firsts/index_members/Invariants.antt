@@ -1,0 +1,10 @@
+use Rattle.std.proofs.Common.{◌≤◌, length}
+use Rattle.views.specs.Indexes.{MembersFrom}
+use Rattle.views.proofs.firsts.index_members.Given as goal
+
+-- those from `at` on are in the map
+abbrev pub invariant-loop-at : goal.invariant-loop-at
+invariant-loop-at l = record { within : l.at ≤ length l.members; has : MembersFrom l.index l.at l.members }
+
+abbrev pub decreases-loop-at : goal.decreases-loop-at
+decreases-loop-at l = l.at

@@ -1,0 +1,11 @@
+use Rattle.std.proofs.Common.{◌∙◌, ap, sym}
+use Rattle.std.specs.Prelude.{Option}
+use Rattle.views.specs.Face.{Face}
+use Rattle.views.specs.Looks.{static_lock_in}
+use Rattle.views.proofs.view.View.lock_is_static.Goals as goal
+
+pub returns-in-None : goal.returns-in-None
+returns-in-None c = sym (ap (λ (f : Option Face). static_lock_in f c.args.holder.now) c.in-None.ensures)
+
+pub returns-in-Some : goal.returns-in-Some
+returns-in-Some c = c.is_static_holder.ensures ∙ sym (ap (λ (f : Option Face). static_lock_in f c.args.holder.now) c.in-Some.ensures)

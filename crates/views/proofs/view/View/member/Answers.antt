@@ -1,0 +1,11 @@
+use Rattle.std.proofs.Common.{◌∙◌, ap, sym}
+use Rattle.std.specs.Prelude.{Option}
+use Rattle.views.specs.Face.{Face}
+use Rattle.views.specs.Looks.{member_in}
+use Rattle.views.proofs.view.View.member.Goals as goal
+
+pub returns-in-None : goal.returns-in-None
+returns-in-None c = sym (ap (λ (f : Option Face). member_in f c.args.key.now) c.in-None.ensures)
+
+pub returns-in-Some : goal.returns-in-Some
+returns-in-Some c = c.member.ensures ∙ sym (ap (λ (f : Option Face). member_in f c.args.key.now) c.in-Some.ensures)

@@ -1,0 +1,9 @@
+pub mod Face
+pub mod Filed
+pub mod Gathered
+pub mod Indexed
+pub mod Indexes
+pub mod Kinds
+pub mod Looks
+pub mod Roots
+pub mod Seeing
