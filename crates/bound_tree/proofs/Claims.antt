@@ -3,7 +3,7 @@ use Rattle.std.proofs.Common.{◌≡◌, refl, ℕ, Bool, List, [], ◌∷◌, �
 use Rattle.std.proofs.lemmas.List.{append-nil}
 use Rattle.bound_tree.specs.Claim.{Claim}
 use Rattle.bound_tree.specs.Claim as claim
-use Rattle.bound_tree.specs.Tree.{Term, Terms, Statement, Statements, stamp_of, base_of}
+use Rattle.bound_tree.specs.Tree.{Term, Terms, Statement, Statements, stamp_of, is_bad, base_of}
 use Rattle.bound_tree.specs.Tree as t
 use Rattle.bound_tree.specs.Places.{Frame, InSync, InClass, Place, Goal, Locks, here, inside, under, term_places, args_places, base_places, Access, access_of, read_places, written_places, one_term, two_terms, places, places_all}
 use Rattle.bound_tree.specs.Claims.{claim_of, listed, frame_claims, claims_of, Seen, seen, all_seen, with_claims, walked, walked_all}
@@ -104,12 +104,12 @@ mutual
       ∙ ap (λ (l : List Seen). all_seen varies held (term_places (one_term v) v) ++ l) (walked-seen varies held a))
   walked-seen varies held (t.Sync v a) =
       ap (λ (l : List Seen). l ++ walked varies (held ++ listed (claim_of varies v)) a)
-      (bare-seen varies held (term_places (one_term v) v ++ here (one_term v) (stamp_of v).is_faulty (stamp_of v).first (Locks v))
+      (bare-seen varies held (term_places (one_term v) v ++ here (one_term v) (is_bad v) (stamp_of v).first (Locks v))
       (bare-both (term_places (one_term v) v) _ (term-bare (one_term v) v) (refl, tt)))
-      ∙ ap (λ (l : List Seen). all_seen varies held (term_places (one_term v) v ++ here (one_term v) (stamp_of v).is_faulty (stamp_of v).first (Locks v)) ++ l)
+      ∙ ap (λ (l : List Seen). all_seen varies held (term_places (one_term v) v ++ here (one_term v) (is_bad v) (stamp_of v).first (Locks v)) ++ l)
       (walked-seen varies (held ++ listed (claim_of varies v)) a ∙ sym (seen-under varies held (InSync v) (places a)))
-      ∙ sym (seen-both varies held (term_places (one_term v) v ++ here (one_term v) (stamp_of v).is_faulty (stamp_of v).first (Locks v)) (under (InSync v) (places a)))
-      ∙ ap (all_seen varies held) (append_assoc (term_places (one_term v) v) (here (one_term v) (stamp_of v).is_faulty (stamp_of v).first (Locks v)) (under (InSync v) (places a)))
+      ∙ sym (seen-both varies held (term_places (one_term v) v ++ here (one_term v) (is_bad v) (stamp_of v).first (Locks v)) (under (InSync v) (places a)))
+      ∙ ap (all_seen varies held) (append_assoc (term_places (one_term v) v) (here (one_term v) (is_bad v) (stamp_of v).first (Locks v)) (under (InSync v) (places a)))
   walked-seen varies held (t.SyncClass p c a) =
       walked-seen varies (held ++ claim.Class c ∷ []) a ∙ sym (seen-under varies held (InClass c) (places a))
   walked-seen varies held (t.Return p) = refl

@@ -7,7 +7,7 @@ use Rattle.bound_tree.specs.Claims.{claim_of, listed, Seen, all_seen, with_claim
 use Rattle.bound_tree.specs.Places.{InMember, InClass, Place, Goal, ToReceiver, ToArgument, ToConstructor, ToNothing, ToLocal, ToResult, ToThread, Locks, Starts, Access, access_of, target_goal, here, goes, term_places, args_places, base_places, read_places, written_places, one_term, two_terms, places, member_places, part_places}
 use Rattle.bound_tree.specs.Reading.{statement_of}
 use Rattle.bound_tree.specs.Shown.{shown, shown_back}
-use Rattle.bound_tree.specs.Tree.{Term, Terms, Statement, Statements, stamp_of, base_of}
+use Rattle.bound_tree.specs.Tree.{Term, Terms, Statement, Statements, stamp_of, is_bad, base_of}
 use Rattle.bound_tree.specs.Tree as t
 use Rattle.bound_tree.specs.Walked.{term_seen, args_seen, base_seen, read_seen, written_seen, value_seen, statement_seen, statements_seen, member_claims, body_seen}
 use Rattle.bound_tree.specs.declared.place.Seen.{Seen as KeptSeen}
@@ -92,16 +92,16 @@ mutual
   statement-walk varies h (t.Perform v) k = term-walk h (one_term v) v k
   statement-walk varies h (t.Start p v) k =
       next h (term_places (one_term v) v) _ _ _ k (term-walk h (one_term v) v _)
-      (next h (goes (one_term v) v ToThread) (here (one_term v) (stamp_of v).is_faulty p (Starts v)) _ _ k refl refl)
+      (next h (goes (one_term v) v ToThread) (here (one_term v) (is_bad v) p (Starts v)) _ _ k refl refl)
   statement-walk varies h (t.If v a b) k =
       also (with_claims h (term_places (one_term v) v)) _ _ _ k (term-walk h (one_term v) v _)
       (also (walked varies h a) (walked varies h b) _ _ k (statement-walk varies h a _) (statement-walk varies h b k))
   statement-walk varies h (t.While v a) k =
       also (with_claims h (term_places (one_term v) v)) (walked varies h a) _ _ k (term-walk h (one_term v) v _) (statement-walk varies h a k)
   statement-walk varies h (t.Sync v a) k =
-      also (with_claims h (term_places (one_term v) v ++ here (one_term v) (stamp_of v).is_faulty (stamp_of v).first (Locks v)))
+      also (with_claims h (term_places (one_term v) v ++ here (one_term v) (is_bad v) (stamp_of v).first (Locks v)))
       (walked varies (h ++ listed (claim_of varies v)) a) _ _ k
-      (next h (term_places (one_term v) v) (here (one_term v) (stamp_of v).is_faulty (stamp_of v).first (Locks v)) _ _ _ (term-walk h (one_term v) v _) refl)
+      (next h (term_places (one_term v) v) (here (one_term v) (is_bad v) (stamp_of v).first (Locks v)) _ _ _ (term-walk h (one_term v) v _) refl)
       (statement-walk varies (h ++ listed (claim_of varies v)) a k)
   statement-walk varies h (t.SyncClass p c a) k = statement-walk varies (h ++ claim.Class c ∷ []) a k
   statement-walk varies h (t.Return p) k = refl

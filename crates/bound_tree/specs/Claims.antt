@@ -153,7 +153,7 @@ abbrev mutual
   walked varies held (t.If v a b) = with_claims held (term_places (one_term v) v) ++ (walked varies held a ++ walked varies held b)
   walked varies held (t.While v a) = with_claims held (term_places (one_term v) v) ++ walked varies held a
   walked varies held (t.Sync v a) =
-      with_claims held (term_places (one_term v) v ++ here (one_term v) (t.stamp_of v).is_faulty (t.stamp_of v).first (Locks v))
+      with_claims held (term_places (one_term v) v ++ here (one_term v) (t.is_bad v) (t.stamp_of v).first (Locks v))
       ++ walked varies (held ++ listed (claim_of varies v)) a
   walked varies held (t.SyncClass p c a) = walked varies (held ++ claim.Class c ∷ []) a
   walked varies held (t.Return p) = []

@@ -6,7 +6,7 @@ use Rattle.bound_tree.specs.declared.name.MemberName.{MemberName}
 use Rattle.bound_tree.specs.declared.unit.BoundTree.{BoundTree}
 use Rattle.bound_tree.specs.declared.unit.Part.{Part}
 use Rattle.bound_tree.specs.declared.unit.Part.TheVariants as part
-use Rattle.bound_tree.specs.Tree.{Term, Terms, Statement, Statements, no_terms, term, no_statements, statement, stamp_of, base_of}
+use Rattle.bound_tree.specs.Tree.{Term, Terms, Statement, Statements, no_terms, term, no_statements, statement, stamp_of, is_bad, base_of}
 use Rattle.bound_tree.specs.Tree as t
 use Rattle.bound_tree.specs.Reading.{statement_of}
 
@@ -45,7 +45,7 @@ pub data What : Type 0 where
 
 -- what stands around it, outermost first; the expressions of the smallest action, declaration,
 -- condition, `synchronized` head or `return` that it stands in; whether the access, the call, the
--- object made or the value is faulty; the number of its token
+-- object made is faulty, or the value can't be used; the number of its token
 pub record Place : Type 0 where
   pub around : List Frame
   pub phrase : Terms
@@ -65,7 +65,7 @@ under f (p ∷ ps) = inside f p ∷ under f ps
 
 -- a value that goes somewhere, at its first token
 abbrev pub goes : Terms → Term → Goal → List Place
-goes ph e g = here ph (stamp_of e).is_faulty (stamp_of e).first (Flows e g)
+goes ph e g = here ph (is_bad e) (stamp_of e).first (Flows e g)
 
 -- those of an expression, in the order of evaluation (JLS 8, 15.7)
 abbrev mutual
@@ -146,11 +146,11 @@ abbrev mutual
       base_places (two_terms to v) (base_of to)
       ++ (read_places (two_terms to v) (access_of to) ++ (term_places (two_terms to v) v ++ written_places (two_terms to v) (access_of to)))
   places (t.Perform v) = term_places (one_term v) v
-  places (t.Start p v) = term_places (one_term v) v ++ (goes (one_term v) v ToThread ++ here (one_term v) (stamp_of v).is_faulty p (Starts v))
+  places (t.Start p v) = term_places (one_term v) v ++ (goes (one_term v) v ToThread ++ here (one_term v) (is_bad v) p (Starts v))
   places (t.If v a b) = term_places (one_term v) v ++ (places a ++ places b)
   places (t.While v a) = term_places (one_term v) v ++ places a
   places (t.Sync v a) =
-      term_places (one_term v) v ++ (here (one_term v) (stamp_of v).is_faulty (stamp_of v).first (Locks v) ++ under (InSync v) (places a))
+      term_places (one_term v) v ++ (here (one_term v) (is_bad v) (stamp_of v).first (Locks v) ++ under (InSync v) (places a))
   places (t.SyncClass p c a) = under (InClass c) (places a)
   places (t.Return p) = []
   places (t.ReturnValue p v) = term_places (one_term v) v ++ goes (one_term v) v ToResult

@@ -1,5 +1,5 @@
 -- A bound tree as plain data.
-use Rattle.std.specs.Prelude.{ℕ, List, Option, Some, None}
+use Rattle.std.specs.Prelude.{ℕ, Bool, ◌||◌, List, Option, Some, None}
 use Rattle.core_model.specs.declared.instr.Op.{Op}
 use Rattle.bound_tree.specs.declared.name.ValueType.{ValueType}
 use Rattle.bound_tree.specs.declared.name.FieldName.{FieldName}
@@ -68,6 +68,10 @@ stamp_of (Unary s o a) = s
 stamp_of (And s a b) = s
 stamp_of (Or s a b) = s
 stamp_of (Binary s o a b) = s
+
+-- whether its value can't be used: it is faulty, or a bind finding stands at parentheses around it
+abbrev pub is_bad : Term → Bool
+is_bad e = (stamp_of e).is_faulty || (stamp_of e).is_misplaced
 
 -- the local that an expression names, and where
 abbrev pub local_of : Term → Option Naming

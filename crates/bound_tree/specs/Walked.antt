@@ -6,7 +6,7 @@ use Rattle.bound_tree.specs.Claims.{claim_of, listed, Seen}
 use Rattle.bound_tree.specs.Places.{Of, OfClass, Goal, ToLocal, ToReceiver, ToArgument, ToConstructor, ToNothing, ToResult, ToThread, What, Reads, Writes, Calls, Makes, Starts, Locks, Flows, Access, access_of, target_goal, one_term, two_terms}
 use Rattle.bound_tree.specs.Reading.{statement_of}
 use Rattle.bound_tree.specs.declared.unit.Body.{Body}
-use Rattle.bound_tree.specs.Tree.{Term, Terms, Statement, Statements, stamp_of, base_of}
+use Rattle.bound_tree.specs.Tree.{Term, Terms, Statement, Statements, stamp_of, is_bad, base_of}
 use Rattle.bound_tree.specs.Tree as t
 
 abbrev pub spot : List Claim → Terms → Bool → ℕ → What → List Seen → List Seen
@@ -14,7 +14,7 @@ spot held ph faulty p w k = record { claims = held; phrase = ph; faulty = faulty
 
 -- a value that goes somewhere, at its first token
 abbrev pub going : List Claim → Terms → Term → Goal → List Seen → List Seen
-going held ph e g k = spot held ph (stamp_of e).is_faulty (stamp_of e).first (Flows e g) k
+going held ph e g k = spot held ph (is_bad e) (stamp_of e).first (Flows e g) k
 
 abbrev mutual
   pub term_seen : List Claim → Terms → Term → List Seen → List Seen
@@ -55,10 +55,10 @@ abbrev pub value_seen : List Claim → Terms → Term → Goal → List Seen →
 value_seen h ph v g k = term_seen h ph v (going h ph v g k)
 
 abbrev pub head_seen : List Claim → Term → List Seen → List Seen
-head_seen h v k = term_seen h (one_term v) v (spot h (one_term v) (stamp_of v).is_faulty (stamp_of v).first (Locks v) k)
+head_seen h v k = term_seen h (one_term v) v (spot h (one_term v) (is_bad v) (stamp_of v).first (Locks v) k)
 
 abbrev pub start_seen : List Claim → ℕ → Term → List Seen → List Seen
-start_seen h p v k = value_seen h (one_term v) v ToThread (spot h (one_term v) (stamp_of v).is_faulty p (Starts v) k)
+start_seen h p v k = value_seen h (one_term v) v ToThread (spot h (one_term v) (is_bad v) p (Starts v) k)
 
 abbrev pub assign_seen : List Claim → Term → Term → List Seen → List Seen
 assign_seen h to v k =

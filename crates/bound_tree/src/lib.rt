@@ -24,7 +24,7 @@ pub use clean_flow::is_clean;
 pub use flow::{put_expr, put_stmt};
 pub use laws::{claims_run_along, passes_tell_runs};
 pub use name::{FieldName, MemberName, ValueType};
-pub use parts::{base_of, local_of, stamp_of};
+pub use parts::{base_of, is_bad, local_of, stamp_of};
 pub use passes::{live, named_later, spent, spent_before};
 pub use place::{Goal, Owner, Phrase, Seen, What};
 pub use places::seen_places;

@@ -29,6 +29,15 @@ pub fn stamp_of(expr: &Expr) -> &Stamp
     }
 }
 
+/// Whether the expression's value can't be used: it is faulty, or a bind finding stands at
+/// parentheses around it.
+pub fn is_bad(expr: &Expr) -> bool
+    ensures { result ≡ spec.is_bad (term_of expr.now) }
+{
+    let stamp = stamp_of(expr);
+    stamp.is_faulty || stamp.is_misplaced
+}
+
 /// The local that the expression names, if it is a local's name.
 #[tactic(auto, using(crate::proofs::Readings::readings))]
 pub fn local_of(expr: &Expr) -> Option<Naming>

@@ -46,7 +46,8 @@ pub enum Phrase<'a> {
 }
 
 /// A place, with the claims of the monitors that stand around it, outermost first, whether the access,
-/// the call, the object made or the value is faulty, and the number of its token. All is borrowed.
+/// the call or the object made is faulty, or the value can't be used, and the number of its token. All
+/// is borrowed.
 #[derive(Clone, Copy)]
 pub struct Seen<'a> {
     pub claims: &'a [Claim<'a>],

@@ -10,7 +10,7 @@ ghost use Rattle.bound_tree.specs.Walked as spec;
 ghost use Rattle.bound_tree.specs.Walked.{member_claims};
 
 use crate::claim::{Claim, claim_of};
-use crate::parts::{base_of, stamp_of};
+use crate::parts::{base_of, is_bad, stamp_of};
 use crate::place::{Access, Callee, Goal, Owner, Phrase, Seen, What};
 use crate::tree::{Expr, Stmt};
 use crate::unit::{Body, BoundTree, Part};
@@ -55,7 +55,7 @@ fn put_flow<'a>(
         places,
         held,
         phrase,
-        stamp.is_faulty,
+        is_bad(value),
         stamp.first,
         What::Flows(value, goal),
     )
@@ -381,7 +381,7 @@ fn put_head<'a>(
         places,
         held,
         phrase,
-        stamp.is_faulty,
+        is_bad(monitor),
         stamp.first,
         What::Locks(monitor),
     )?;
@@ -398,16 +398,8 @@ fn put_start<'a>(
 ) -> Result<(), OutOfMemory>
     ensures { OnOk result (shown_back places.new ≡ spec.start_seen (claims_as held.now) at (term_of value.now) (shown_back places.old)) }
 {
-    let stamp = stamp_of(value);
     let phrase = Phrase::One(value);
-    put(
-        places,
-        held,
-        phrase,
-        stamp.is_faulty,
-        at,
-        What::Starts(value),
-    )?;
+    put(places, held, phrase, is_bad(value), at, What::Starts(value))?;
     put_value(value, Goal::ToThread, held, phrase, places)?;
     Ok(())
 }

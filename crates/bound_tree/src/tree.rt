@@ -4,14 +4,16 @@ use desk_base::{Boxed, Bytes, Items, Name};
 
 /// What stands with each expression: the number, within the unit and from 1, of the token that its
 /// findings name (the name of an access or a call, the word `new`), the number of its first token,
-/// its type, or none where it has no value or is faulty, and whether it is faulty: a bind finding
-/// stands at it or in it, or it uses what has an unknown type.
+/// its type, or none where it has no value or can't be used, whether it is faulty: a bind finding
+/// stands at it or in it, or it uses what has an unknown type; and whether it is misplaced: a bind
+/// finding stands at parentheses around it, so that what stands inside them is not faulty by that.
 #[derive(Drop)]
 pub struct Stamp {
     pub at: u32,
     pub first: u32,
     pub ty: Option<ValueType>,
     pub is_faulty: bool,
+    pub is_misplaced: bool,
 }
 
 /// A local that is named, and the number of the token at which it is.

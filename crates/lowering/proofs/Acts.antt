@@ -8,7 +8,7 @@ use Rattle.bound_tree.specs.declared.name.ValueType.{ValueType}
 use Rattle.bound_tree.specs.declared.unit.Part.{Part}
 use Rattle.bound_tree.specs.declared.unit.Part.TheVariants as part
 use Rattle.bound_tree.specs.declared.tree.UnaryOp.TheVariants as unary
-use Rattle.bound_tree.specs.Tree.{Term, Terms, Statement, Statements, stamp_of, base_of}
+use Rattle.bound_tree.specs.Tree.{Term, Terms, Statement, Statements, stamp_of, is_bad, base_of}
 use Rattle.bound_tree.specs.Tree as t
 use Rattle.bound_tree.specs.Reading.{statement_of}
 use Rattle.bound_tree.specs.Places.{Frame, InSync, InClass, InMember, Place, What, Reads, Writes, Calls, Makes, Starts, Locks, Of, OfClass, Goal, ToReceiver, ToArgument, ToConstructor, ToNothing, ToLocal, ToThread, ToResult, here, goes, under, term_places, args_places, base_places, access_of, read_places, written_places, target_goal, one_term, two_terms, places, places_all, member_places, part_places}
@@ -186,8 +186,8 @@ module _ (varies : ℕ → Bool) where
     stmt-acts held (t.Perform v) k rest =
         expr-acts held (one_term v) v _ rest ∙ ap (place_acts varies held (term_places (one_term v) v)) (drops held v k rest)
     stmt-acts held (t.Start p v) k rest =
-        value-acts held (one_term v) v ToThread (here (one_term v) (stamp_of v).is_faulty p (Starts v)) _ rest (code_acts held k rest)
-        (sym (once held (one_term v) (stamp_of v).is_faulty p (Starts v) (code_acts held k rest)))
+        value-acts held (one_term v) v ToThread (here (one_term v) (is_bad v) p (Starts v)) _ rest (code_acts held k rest)
+        (sym (once held (one_term v) (is_bad v) p (Starts v) (code_acts held k rest)))
     stmt-acts held (t.If v a b) k rest =
         expr-acts held (one_term v) v _ rest
         ∙ ap (place_acts varies held (term_places (one_term v) v))
@@ -205,7 +205,7 @@ module _ (varies : ℕ → Bool) where
         (stmt-acts (held ++ noted_claim (monitor_of (claim_of varies v))) a Done (code_acts held k rest)
         ∙ ap (λ (l : List Claim). place_acts varies (held ++ l) (places a) (code_acts held k rest)) (noted (claim_of varies v))
         ∙ sym (inwards held (InSync v) (places a) (code_acts held k rest)))
-        ∙ sym (both held (term_places (one_term v) v) (here (one_term v) (stamp_of v).is_faulty (stamp_of v).first (Locks v) ++ under (InSync v) (places a)) (code_acts held k rest))
+        ∙ sym (both held (term_places (one_term v) v) (here (one_term v) (is_bad v) (stamp_of v).first (Locks v) ++ under (InSync v) (places a)) (code_acts held k rest))
     stmt-acts held (t.SyncClass p c a) k rest =
         stmt-acts (held ++ claim.Class c ∷ []) a Done (code_acts held k rest) ∙ sym (inwards held (InClass c) (places a) (code_acts held k rest))
     stmt-acts held (t.Return p) k rest = refl
