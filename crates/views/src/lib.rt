@@ -9,6 +9,7 @@ mod entry;
 mod firsts;
 mod items;
 mod kind;
+mod laws;
 mod promises;
 mod regions;
 mod shape;
@@ -18,6 +19,7 @@ mod view;
 
 pub use contents::{lock_content, region_content};
 pub use kind::FaceKind;
+pub use laws::surface_regions_stand;
 pub use surfaces::{AddError, Surfaces};
 pub use unit_promises::UnitPromises;
 pub use view::{View, view_of};

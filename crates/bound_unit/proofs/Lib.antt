@@ -1,0 +1,4 @@
+pub mod NameSet
+pub mod Meeting
+pub mod Params
+pub mod Putting
