@@ -1,0 +1,9 @@
+pub mod Stamps
+pub mod Changes
+pub mod Literals
+pub mod Fields
+pub mod Methods
+pub mod Before
+pub mod Words
+pub mod Bound
+pub mod Laws
