@@ -33,8 +33,8 @@ cut more notes a b c e = ap (λ l. l ++ c) e ∙ simp append_assoc
 -- one more argument
 left-step : (g : Ground) (s : Scope) (number : Span → ℕ) (params : List ParamFace) (list : List Expr) (at : ℕ) (d : Expr) → at < length list
     → left g s number params list at
-      ≡ before_others (fit g.types (argument_place (drop at params)) (is_paren (plain_expr number (get_or list at d))) (raw g s (plain_expr number (get_or list at d))))
-          (left g s number params list (at + 1))
+    ≡ before_others (fit g.types (argument_place (drop at params)) (is_paren (plain_expr number (get_or list at d))) (raw g s (plain_expr number (get_or list at d))))
+    (left g s number params list (at + 1))
 left-step g s number params list at d h =
     let rest : drop at list ≡ get_or list at d ∷ drop (suc at) list = drop-cons list at d h in
     let on : drop 1 (drop at params) ≡ drop (at + 1) params = drop-drop 1 at params in
@@ -76,13 +76,13 @@ pub goes_push : (g : Ground) (s : Scope) (number : Span → ℕ) (params : List 
     → Goes g s number params list (map term_of made) first notes at → Goes g s number params list (map term_of pushed) first more (at + 1)
 goes_push g s number params list made pushed one v first notes told more at d x place h is p e1 n1 e2 n2 put goes =
     subst (λ l. Goes g s number params list l first more (at + 1)) (sym (ap (map term_of) put ∙ map-push made v))
-      (goes_on g s number params list (map term_of made) first notes at d (term_of v) more h
-        (e2 ∙ ap₂ (λ q t. fit_term g.types q (is_paren (plain_expr number x)) t) p e1
-          ∙ ap (λ y. fit_term g.types (argument_place (drop at params)) (is_paren (plain_expr number y)) (raw g s (plain_expr number y)).term) is)
-        (n2 ∙ ap₂ (λ q t. told ++ fit_notes g.types q t) p e1
-          ∙ ap (λ l. l ++ fit_notes g.types (argument_place (drop at params)) (raw g s (plain_expr number x)).term) n1
-          ∙ ap (λ y. (notes ++ (raw g s (plain_expr number y)).notes) ++ fit_notes g.types (argument_place (drop at params)) (raw g s (plain_expr number y)).term) is)
-        goes)
+    (goes_on g s number params list (map term_of made) first notes at d (term_of v) more h
+    (e2 ∙ ap₂ (λ q t. fit_term g.types q (is_paren (plain_expr number x)) t) p e1
+    ∙ ap (λ y. fit_term g.types (argument_place (drop at params)) (is_paren (plain_expr number y)) (raw g s (plain_expr number y)).term) is)
+    (n2 ∙ ap₂ (λ q t. told ++ fit_notes g.types q t) p e1
+    ∙ ap (λ l. l ++ fit_notes g.types (argument_place (drop at params)) (raw g s (plain_expr number x)).term) n1
+    ∙ ap (λ y. (notes ++ (raw g s (plain_expr number y)).notes) ++ fit_notes g.types (argument_place (drop at params)) (raw g s (plain_expr number y)).term) is)
+    goes)
 
 over : (g : Ground) (s : Scope) (number : Span → ℕ) (params : List ParamFace) (list : List Expr) (at : ℕ) → length list ≤ at
     → left g s number params list at ≡ record { terms = []; notes = [] }

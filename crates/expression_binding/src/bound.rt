@@ -78,7 +78,15 @@ fn raw<T: TypeTable>(
             let named = site.places.place(name.span);
             let maker = made(&*site, &name.text, args.len(), notes)?;
             let bound = raw_all(args.as_slice(), site, scope, maker_params(maker), notes)?;
-            new_object(&*site.types, at, named, &name.text, args.len(), bound, notes)
+            new_object(
+                &*site.types,
+                at,
+                named,
+                &name.text,
+                args.len(),
+                bound,
+                notes,
+            )
         }
         Java::Paren(opening, inside, _) => {
             let inside = raw(inside.get(), site, scope, notes)?;
@@ -106,14 +114,26 @@ fn raw<T: TypeTable>(
                 Some(word) => {
                     let first = site.places.place(word.span);
                     let before = type_before(site, first, &word.text, notes)?;
-                    let found = called(&*site, class_before(&before), &name.text, args.len(), notes)?;
+                    let found = called(
+                        &*site,
+                        class_before(&before),
+                        &name.text,
+                        args.len(),
+                        notes,
+                    )?;
                     let args = raw_all(args.as_slice(), site, scope, method_params(&found), notes)?;
                     call_behind(site, before, at, &name.text, found, args, notes)
                 }
                 None => {
                     let value = raw(from.get(), site, scope, notes)?;
                     let before = value_before(site, from.get(), value, notes)?;
-                    let found = called(&*site, class_before(&before), &name.text, args.len(), notes)?;
+                    let found = called(
+                        &*site,
+                        class_before(&before),
+                        &name.text,
+                        args.len(),
+                        notes,
+                    )?;
                     let args = raw_all(args.as_slice(), site, scope, method_params(&found), notes)?;
                     call_behind(site, before, at, &name.text, found, args, notes)
                 }
