@@ -1,0 +1,5 @@
+pub mod Lists
+pub mod LimitMore
+pub mod Refused
+pub mod RepeatMore
+pub mod Gathered
