@@ -3,3 +3,4 @@ pub mod LimitMore
 pub mod Refused
 pub mod RepeatMore
 pub mod Gathered
+pub mod OneProject

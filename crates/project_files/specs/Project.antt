@@ -1,11 +1,15 @@
 -- Which files are a project, and why others are none.
-use Rattle.std.specs.Prelude.{◌≡◌, List, Some, None}
+use Rattle.std.specs.Prelude.{◌≡◌, ◌≢◌, List, Some, None, map, AllPairs}
 use Rattle.bundle.specs.Entry.{Entry}
 use Rattle.project_files.specs.declared.error.FilesError.{FilesError}
 use Rattle.project_files.specs.declared.error.FilesError.TheVariants as error
 use Rattle.project_files.specs.Limits.{passed_limit}
 use Rattle.project_files.specs.Trees.{TreeFile, AreReadAs, IsUnread, types_of}
 use Rattle.project_files.specs.Repeats.{NoRepeat, FirstRepeat}
+
+-- no two files have one path
+abbrev pub PathsDiffer : List Entry → Type 0
+PathsDiffer files = AllPairs ◌≢◌ (map (λ (e : Entry). e.path) files)
 
 -- the files are within the limits, and read as these trees
 pub record AreTaken (files : List Entry) (trees : List TreeFile) : Type 0 where

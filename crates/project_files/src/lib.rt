@@ -3,6 +3,7 @@
 #![tactic(auto)]
 
 mod error;
+mod laws;
 mod limits;
 mod order;
 mod project;
@@ -10,5 +11,6 @@ mod reading;
 mod repeats;
 
 pub use error::FilesError;
+pub use laws::{one_project, projects_have_no_cause};
 pub use project::read_project;
 pub use reading::ReadFile;
