@@ -13,3 +13,6 @@ pub use list::into_vec;
 pub use promise::UnitPromise;
 pub use unit::unit_findings;
 pub use vouch::{source_vouch, vouched};
+
+#[cfg(test)]
+mod tests;
