@@ -1,6 +1,7 @@
 use class_faces::{FaceTy, FieldFace};
 use desk_base::{Name, OutOfMemory};
 use std::alloc::Global;
+use std::collections::BTreeMap;
 use std::marker::Model;
 
 /// A parameter or local that a name in scope names: its number as in core code, its declared type,
@@ -30,19 +31,26 @@ pub enum Meaning<'s> {
     Free,
 }
 
-/// The names in scope, in the order in which they came. No name stands twice.
+/// The names in scope, in the order in which they came. No name stands twice. Finding a name and
+/// putting one in take the time of a look-up in a map, and taking names out that of what is taken.
 #[derive(Drop)]
 pub struct Scope {
     entries: Vec<Entry>,
+    // Where each name in scope stands. A name that was taken out may be left here, with a place at
+    // which now another name stands, or none.
+    places: BTreeMap<Name, usize>,
 }
 
 impl Model for Scope {
     ghost use Rattle.std.specs.Prelude.{List};
     ghost use Rattle.name_rules.specs.declared.scope.Entry.{Entry};
+    ghost use Rattle.name_rules.specs.Named.{IsNamed};
 
     ghost Value = { List Entry };
 
     ghost view = { λ s. s.entries.items };
+
+    ghost invariant = { λ s. IsNamed s.places s.entries.items };
 }
 
 impl Scope {
@@ -56,6 +64,7 @@ impl Scope {
     {
         Scope {
             entries: Vec::new(alloc),
+            places: BTreeMap::new(alloc),
         }
     }
 
@@ -63,7 +72,13 @@ impl Scope {
     pub fn entry(&self, name: &Name) -> Option<&Entry>
         ensures { option_copied result ≡ spec.entry_of self.now name.now }
     {
-        self.entries.iter().find(|entry| entry.name == *name)
+        let place = self.places.get(name)?;
+        let entry = self.entries.get(*place)?;
+        if entry.name == *name {
+            Some(entry)
+        } else {
+            None
+        }
     }
 
     /// Whether a name is in scope.
@@ -78,9 +93,13 @@ impl Scope {
         ensures ok { OnOk result (self.new ≡ spec.with_entry self.old entry) }
         ensures err { OnErr result (self.new ≡ self.old) }
     {
-        if !self.has(&entry.name) {
-            self.entries.push(entry)?;
+        if self.has(&entry.name) {
+            return Ok(());
         }
+        let name = entry.name.clone()?;
+        let place = self.len();
+        self.places.insert(name, place)?;
+        self.entries.push(entry)?;
         Ok(())
     }
 
