@@ -1,0 +1,4 @@
+pub mod Climbing
+pub mod RegionsUnder
+pub mod Walks
+pub mod Front

@@ -1,0 +1,10 @@
+pub mod Under
+pub mod Locks
+pub mod Needs
+pub mod Owned
+pub mod Roles
+pub mod Judged
+pub mod SameNeeds
+pub mod SameRoles
+pub mod SameRows
+pub mod Local
