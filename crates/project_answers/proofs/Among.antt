@@ -23,7 +23,7 @@ use Rattle.project_answers.specs.Laws.{PromiseAmong, UnitAmong}
 
 -- ---- what holds of each element, however they are put in order
 
-all_put : {X : Type 0} (lt : X → X → Bool) (P : X → Type 0) (x : X) (ys : List X) → P x → AllByRecursion P ys → AllByRecursion P (put lt x ys)
+pub all_put : {X : Type 0} (lt : X → X → Bool) (P : X → Type 0) (x : X) (ys : List X) → P x → AllByRecursion P ys → AllByRecursion P (put lt x ys)
 all_put lt P x [] h all = (h, tt)
 all_put {X} lt P x (y ∷ ys) h all = go (lt y x) (all_put lt P x ys h all.1)
   where
@@ -31,15 +31,15 @@ all_put {X} lt P x (y ∷ ys) h all = go (lt y x) (all_put lt P x ys h all.1)
     go true more = (all.0, more)
     go false more = (h, all)
 
-all_ordered : {X : Type 0} (lt : X → X → Bool) (P : X → Type 0) (xs : List X) → AllByRecursion P xs → AllByRecursion P (ordered lt xs)
+pub all_ordered : {X : Type 0} (lt : X → X → Bool) (P : X → Type 0) (xs : List X) → AllByRecursion P xs → AllByRecursion P (ordered lt xs)
 all_ordered lt P [] all = tt
 all_ordered lt P (x ∷ xs) all = all_put lt P x (ordered lt xs) all.0 (all_ordered lt P xs all.1)
 
-all_append : {X : Type 0} (P : X → Type 0) (xs ys : List X) → AllByRecursion P xs → AllByRecursion P ys → AllByRecursion P (xs ++ ys)
+pub all_append : {X : Type 0} (P : X → Type 0) (xs ys : List X) → AllByRecursion P xs → AllByRecursion P ys → AllByRecursion P (xs ++ ys)
 all_append P [] ys all more = more
 all_append P (x ∷ xs) ys all more = (all.0, all_append P xs ys all.1 more)
 
-all_filter : {X : Type 0} (P : X → Type 0) (p : X → Bool) (xs : List X) → AllByRecursion P xs → AllByRecursion P (filter p xs)
+pub all_filter : {X : Type 0} (P : X → Type 0) (p : X → Bool) (xs : List X) → AllByRecursion P xs → AllByRecursion P (filter p xs)
 all_filter P p [] all = tt
 all_filter {X} P p (x ∷ xs) all = go (p x) (all_filter P p xs all.1)
   where

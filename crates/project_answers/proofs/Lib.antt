@@ -4,3 +4,4 @@ pub mod Gathering
 pub mod Listing
 pub mod Blaming
 pub mod Among
+pub mod Ways

@@ -1,6 +1,8 @@
 -- What answers are like, whatever the project.
-use Rattle.std.specs.Prelude.{◌≡◌, true, false, List, Option, Some, None, Contains, map}
+use Rattle.std.specs.Prelude.{◌≡◌, true, false, List, Option, Some, None, All, Contains, map}
 use Rattle.desk_base.specs.declared.key.PromiseKey.{PromiseKey}
+use Rattle.result_records.specs.declared.code.FindingCode.{FindingCode}
+use Rattle.result_records.specs.declared.finding.Finding.{Finding}
 use Rattle.result_records.specs.declared.finding.FindingKey.{FindingKey}
 use Rattle.consistency.specs.Among.{FindingsAmong}
 use Rattle.consistency.specs.declared.verdict.Verdict.{Verdict}
@@ -11,11 +13,21 @@ use Rattle.unit_findings.specs.Vouches.{has_no_way}
 use Rattle.unit_findings.specs.declared.promise.UnitPromise.{UnitPromise}
 use Rattle.project_answers.specs.declared.gather.UnitFound.{UnitFound}
 use Rattle.project_answers.specs.declared.sited.Sited.{Sited}
-use Rattle.project_answers.specs.Gathered.{finding_of, is_standing}
+use Rattle.project_answers.specs.Gathered.{finding_of, is_standing, is_standing_code}
 
 -- that a promise is one of the project isn't by itself a failure
 abbrev pub HasWay : Sited → Type 0
 HasWay s = is_standing s ≡ true → has_no_way s.finding.alternatives ≡ false
+
+abbrev pub FindingHasWay : Finding → Type 0
+FindingHasWay f = is_standing_code f.key.code ≡ true → has_no_way f.alternatives ≡ false
+
+-- the rule that a promise breaks isn't that it stands
+abbrev pub IsFaulted : UnitPromise → Type 0
+IsFaulted p = (fault : FindingCode) → p.fault ≡ Some fault → is_standing_code fault ≡ false
+
+abbrev pub UnitHasWays : UnitFound → Type 0
+UnitHasWays u = All HasWay u.found.items
 
 -- the finding has a row, and fails there
 pub record HasFailingRow (rows : List FindingRow) (b : FindingKey) : Type 0 where

@@ -13,7 +13,7 @@ ghost use Rattle.project_answers.specs.declared.gather.UnitFound.{UnitFound as F
 ghost use Rattle.project_answers.specs.declared.sited.Sited.{Sited as Placed};
 ghost use Rattle.project_answers.specs.Answered.{AreAnswers};
 ghost use Rattle.project_answers.specs.Gathered.{finding_of, project_findings};
-ghost use Rattle.project_answers.specs.Laws.{HasWay, IsBlamedByRow, PromiseAmong, UnitAmong};
+ghost use Rattle.project_answers.specs.Laws.{FindingHasWay, HasWay, IsBlamedByRow, IsFaulted, PromiseAmong, UnitAmong, UnitHasWays};
 
 /// Each inconsistent verdict of answers is blamed on a finding that has a row there, and fails.
 pub fn blames_are_rows()
@@ -29,4 +29,15 @@ pub fn unit_findings_are_among()
 /// The findings of a project speak of its promises alone, where those of its units do.
 pub fn project_findings_are_among()
     ensures { (ps : List Key) (units : List FoundUnit) → All (UnitAmong ps) units → FindingsAmong ps (map finding_of (project_findings units)) }
+{}
+
+/// That a promise of a unit is one of the project is no failure by itself, where nothing that was found
+/// in the unit says it.
+pub fn unit_findings_have_ways()
+    ensures { (unit : List ℕ) (vouch : Option (List ℕ)) (promises : List Promise) (found : List Found) → All IsFaulted promises → All FindingHasWay found → All FindingHasWay (unit_findings unit vouch promises found) }
+{}
+
+/// Nor is it in a project, where it is in no unit.
+pub fn project_findings_have_ways()
+    ensures { (units : List FoundUnit) → All UnitHasWays units → All HasWay (project_findings units) }
 {}

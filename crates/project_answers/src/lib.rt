@@ -14,7 +14,10 @@ mod verdicts;
 
 pub use answers::{Sizes, project_answers};
 pub use gather::{UnitFound, project_findings};
-pub use laws::{blames_are_rows, project_findings_are_among, unit_findings_are_among};
+pub use laws::{
+    blames_are_rows, project_findings_are_among, project_findings_have_ways,
+    unit_findings_are_among, unit_findings_have_ways,
+};
 pub use lines::LineCursor;
 pub use promises::promise_list;
 pub use sited::{Site, Sited, site_findings};
