@@ -1,6 +1,6 @@
 -- What type names mean: which are known, what they show, and which value suits which place.
-use Rattle.std.specs.Prelude.{ℕ, Bool, true, false, ◌&&◌, ◌||◌, not, List, [], ◌++◌, length, Option, Some, None, codes, find}
-use Rattle.std.specs.List.{list_any}
+use Rattle.std.specs.Prelude.{ℕ, Bool, true, false, ◌&&◌, ◌||◌, not, List, [], ◌++◌, Option, Some, None, codes, find, nat_eq}
+use Rattle.std.specs.List.{list_any, starts_with}
 use Rattle.std.specs.Option.{is_some}
 use Rattle.std.specs.Str.{bytes_eq}
 use Rattle.java_tree.specs.declared.file.TypeKind.{TypeKind}
@@ -203,7 +203,11 @@ abbrev pub members_in : Option Face → List MemberFace
 members_in None = []
 members_in (Some s) = s.members
 
+-- what the keys of a class's constructors begin with
+abbrev pub maker_front : Name → List ℕ
+maker_front c = text_of (c ++ codes ".new/")
+
 -- the first constructor
 abbrev pub maker_in : Name → Option Face → Option MemberFace
 maker_in c None = None
-maker_in c (Some s) = find (λ (m : MemberFace). bytes_eq m.key (member_key c (codes "new") (length m.params))) s.members
+maker_in c (Some s) = find (λ (m : MemberFace). starts_with nat_eq m.key (maker_front c)) s.members

@@ -58,6 +58,11 @@ abbrev pub member_in : Option Face → List ℕ → Option MemberFace
 member_in None key = None
 member_in (Some f) key = keyed f.members key
 
+-- the methods, interface methods, constructors and mains of a type, in written order
+abbrev pub members_in : Option Face → List MemberFace
+members_in None = []
+members_in (Some f) = f.members
+
 -- what the keys of a class's constructors begin with
 abbrev pub constructor_front : List ℕ → List ℕ
 constructor_front class = text_of (class ++ codes ".new/")

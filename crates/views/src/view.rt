@@ -115,6 +115,16 @@ impl<'a> View<'a> {
         }
     }
 
+    /// The methods, interface methods, constructors and mains of a type, in written order.
+    pub fn members(&self, class: &Name) -> &[MemberFace]
+        ensures { result.now ≡ look.members_in (face self.now class.now) }
+    {
+        match self.find(class) {
+            Some(found) => found.entry.surface().members.as_slice(),
+            None => &[],
+        }
+    }
+
     /// The first constructor.
     pub fn constructor(&self, class: &Name) -> Option<&MemberFace>
         ensures { option_copied result ≡ look.constructor_in (face self.now class.now) }
