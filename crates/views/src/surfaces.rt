@@ -153,7 +153,7 @@ impl Surfaces {
     ghost use Rattle.std.specs.Prelude.{◌↔◌, [], IfOk, IsSome, MatchOption, None, OnErr, OnOk, Some, is_some};
     ghost use Rattle.std.specs.Option.{option_copied};
     ghost use Rattle.views.specs.Face.{RegionsStand, built_in, surface_named, type_named};
-    ghost use Rattle.views.specs.Filed.{with_surface};
+    ghost use Rattle.views.specs.Filed.{lent, with_surface};
 
     /// No surfaces. It takes memory for the types that are there without being declared.
     pub fn new(alloc: Global) -> Result<Surfaces, OutOfMemory>
@@ -219,6 +219,17 @@ impl Surfaces {
         ensures { option_copied result ≡ surface_named self.now name.now }
     {
         self.types.get(name)
+    }
+
+    /// The surfaces in the order of their names. It takes memory for the list of them alone.
+    pub fn in_order(&self) -> Result<Items<&Surface>, OutOfMemory>
+        ensures { IfOk result (λ list. lent list ≡ self.now) }
+    {
+        let mut list = Items::new(self.alloc);
+        for (_, entry) in &self.types {
+            list.push(entry.surface())?;
+        }
+        Ok(list)
     }
 
     fn built_in(&self, name: &Name) -> Option<Found<'_>>
