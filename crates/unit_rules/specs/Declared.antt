@@ -1,7 +1,6 @@
 -- What is declared with a type: a type that isn't there is found, and each is consulted; and parameters,
 -- which are names of the body.
 use Rattle.std.specs.Prelude.{ℕ, suc, ◌+◌, Bool, true, false, not, List, [], ◌∷◌, ◌++◌, Option, Some, None}
-use Rattle.std.specs.List.{list_any}
 use Rattle.desk_base.specs.declared.span.Span.{Span}
 use Rattle.java_tree.specs.declared.member.Ty.{Ty}
 use Rattle.java_tree.specs.declared.member.Ty.TheVariants as ty
@@ -29,14 +28,17 @@ abbrev pub result_notes : Types → (Span → ℕ) → Option Ty → List Note
 result_notes types number None = []
 result_notes types number (Some t) = type_notes types number t
 
+abbrev pub value_type : Ty → ValueType
+value_type t = type_of (face_ty t)
+
 abbrev pub result_type : Option Ty → Option ValueType
 result_type None = None
-result_type (Some t) = Some (type_of (face_ty t))
+result_type (Some t) = Some (value_type t)
 
 -- ---- parameters
 
 abbrev pub variable_of : (Span → ℕ) → Param → Variable
-variable_of number p = record { at = suc (number p.name.span); name = p.name.text; ty = type_of (face_ty p.ty) }
+variable_of number p = record { at = suc (number p.name.span); name = p.name.text; ty = value_type p.ty }
 
 -- the parameter as a name of the body, under the number of its local
 abbrev pub param_entry : ℕ → Param → Entry

@@ -1,8 +1,8 @@
 -- Where the annotations of the promises begin that stand at a unit. Its promises come in the order of its
 -- annotations, those that were spread to it last.
 use Rattle.std.specs.Prelude.{ℕ, ◌==◌, Bool, true, false, ◌&&◌, List, [], ◌∷◌, ◌++◌, Option, Some, None, map, length, take, drop, replicate, if◌then◌else◌}
-use Rattle.std.specs.List.{list_all}
-use Rattle.std.specs.Option.{option_map}
+use Rattle.std.specs.List.{list_all, slice_get}
+use Rattle.std.specs.Option.{option_copied, option_map}
 use Rattle.std.specs.Str.{bytes_eq}
 use Rattle.java_tree.specs.declared.file.ClassTree.{ClassTree}
 use Rattle.java_tree.specs.declared.member.MemberTree.{MemberTree}
@@ -16,9 +16,10 @@ use Rattle.result_records.specs.declared.code.FindingCode.{FindingCode}
 use Rattle.scrub_rules.specs.declared.place.Site.{Site}
 use Rattle.scrub_rules.specs.Offers.{param_name}
 use Rattle.scrub_rules.specs.Place.{first_code, header_site, site_of}
+use Rattle.unit_rules.specs.declared.given.Written.{Written as Kept}
 
 -- An annotation: its content, where its place and form allow it; the name of the parameter that it stands
--- at, where it stands at one; and the number of its `@`.
+-- at, as a text, where it stands at one; and the number of its `@`.
 pub record Written : Type 0 where
   pub content : Option PromiseTree
   pub param : Option (List ℕ)
@@ -37,7 +38,7 @@ header_annotation class m at = record { content = allowed (header_site class.kin
 abbrev pub member_annotation : MemberTree → Mark → ℕ → Written
 member_annotation member m at = record {
   content = allowed (site_of member m.param) m.tree;
-  param = option_map (λ i. param_name member (Some i)) m.param;
+  param = option_map (λ i. text_of (param_name member (Some i))) m.param;
   at = at;
 }
 
@@ -64,11 +65,19 @@ promise_count (PromiseTree-F.Vouch text) = 0
 -- at a parameter the detail is its name
 abbrev pub is_at : Option (List ℕ) → Standing → Bool
 is_at None s = true
-is_at (Some param) s = bytes_eq s.key.detail (text_of param)
+is_at (Some param) s = bytes_eq s.key.detail param
 
 -- the promise has this content and is at this parameter, if at one
 abbrev pub has_content : PromiseTree → Option (List ℕ) → Standing → Bool
 has_content tree param s = same_tree s.tree tree && is_at param s
+
+abbrev pub has_content_in : PromiseTree → Option (List ℕ) → Option Standing → Bool
+has_content_in tree param None = false
+has_content_in tree param (Some s) = has_content tree param s
+
+-- there is a promise of the number, and it is such
+abbrev pub has_content_if_any : PromiseTree → Option (List ℕ) → List Standing → ℕ → Bool
+has_content_if_any tree param ss at = has_content_in tree param (slice_get ss at)
 
 -- the next promises are as many as the content has, all with it
 abbrev pub gives_next : PromiseTree → Option (List ℕ) → List Standing → Bool
@@ -92,4 +101,12 @@ given_count a ss = given_content a.content a.param ss
 -- have the unit's first token
 abbrev pub begun : List Written → List Standing → List ℕ
 begun [] ss = map (λ s. 1) ss
-begun (a ∷ as) ss = replicate (given_count a ss) a.at ++ begun as (drop (given_count a ss) ss)
+begun (a ∷ more) ss = replicate (given_count a ss) a.at ++ begun more (drop (given_count a ss) ss)
+
+-- ---- in the program
+
+abbrev pub written_as : Kept → Written
+written_as a = record { content = option_copied a.content; param = a.param; at = a.at }
+
+abbrev pub all_written : List Kept → List Written
+all_written list = map written_as list

@@ -22,13 +22,16 @@ word_of number w = record { at = suc (number w.span); name = w.text }
 abbrev pub header_annotations : (Span → ℕ) → ClassTree → List Mark → List Written
 header_annotations number class marks = each_at (header_annotation class) marks (header_begins number class)
 
-abbrev pub header_tree : Faces → (Span → ℕ) → ClassTree → (key : List ℕ) → List Mark → BoundTree
-header_tree faces number class key marks = record {
+abbrev pub header_tree_with : Faces → (Span → ℕ) → ClassTree → (key : List ℕ) → List Written → BoundTree
+header_tree_with faces number class key annotations = record {
   class = class.name.text;
   annotations = header_begins number class;
-  standing = begun (header_annotations number class marks) (standing_at (faces class.name.text) key);
+  standing = begun annotations (standing_at (faces class.name.text) key);
   part = part.Header (map (word_of number) class.implements);
 }
+
+abbrev pub header_tree : Faces → (Span → ℕ) → ClassTree → (key : List ℕ) → List Mark → BoundTree
+header_tree faces number class key marks = header_tree_with faces number class key (header_annotations number class marks)
 
 abbrev pub header_notes : Faces → (Span → ℕ) → ClassTree → List Mark → List Note
 header_notes faces number class marks =
