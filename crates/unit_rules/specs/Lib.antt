@@ -5,5 +5,5 @@ pub mod Faults
 pub mod Consulted
 pub mod Implements
 pub mod Assumed
-pub mod Declared
+pub mod Declarations
 pub mod Headers

@@ -144,7 +144,7 @@ fn in_order(alloc: Global, names: Items<Name>) -> Result<Items<Name>, OutOfMemor
 /// class and what that implements, of the types that stand in it or that its expressions name, call,
 /// pass to or get, and of the types that the promises of the unit, of the members that it calls and of
 /// those that it implements name. They are in the order of their bytes, each once.
-pub fn consulted(
+pub fn consulted_names(
     alloc: Global,
     view: &View<'_>,
     key: &Text,

@@ -143,7 +143,7 @@ fn firsts(alloc: Global, findings: Items<Finding>) -> Result<Items<Finding>, Out
 
 /// The bind findings of a unit of a key, of what is told of it, with its tokens: in order of places, at
 /// one place at most one, that of the first code, each with its number among those of its code.
-pub fn faults(
+pub fn bind_findings(
     alloc: Global,
     key: &Text,
     tokens: &[Token],

@@ -7,7 +7,7 @@
 mod annotations;
 mod assumed;
 mod consulted;
-mod declared;
+mod declarations;
 mod faults;
 mod given;
 mod headers;
@@ -15,9 +15,9 @@ mod implements;
 mod shown;
 
 pub use annotations::{header_begins, member_begins};
-pub use consulted::consulted;
-pub use declared::{put_params, put_result_notes, put_type_notes, result_type, variables};
-pub use faults::faults;
+pub use consulted::consulted_names;
+pub use declarations::{put_params, put_result_notes, put_type_notes, result_type, variables};
+pub use faults::bind_findings;
 pub use given::member_begun;
 pub use headers::bind_header;
 pub use shown::ViewTypes;

@@ -1,7 +1,7 @@
 ghost use Rattle.std.specs.Prelude.{◌≡◌, ◌++◌, map, IfOk, OnOk};
 ghost use Rattle.class_faces.specs.Faces.{is_final as has_final};
 ghost use Rattle.tree_places.specs.Numbers.{number_of};
-ghost use Rattle.unit_rules.specs.Declared as spec;
+ghost use Rattle.unit_rules.specs.Declarations as spec;
 
 use bound_tree::{ValueType, Variable};
 use class_faces::{FaceTy, face_ty};
