@@ -29,74 +29,74 @@ kind_shows (Some f) = sym (kind_with f (declared_kind f.kind))
 -- ---- one that isn't declared
 
 absent_with : (f : Face) (k : Option TypeKind) → is_some k ≡ false → shown_with f k ≡ None
-absent_with f None no = refl
-absent_with f (Some k) no = absurd (cc)
+absent_with f None not_there = refl
+absent_with f (Some k) not_there = absurd (cc)
 
 absent : (shown : Option Face) → declares shown ≡ false → type_shown shown ≡ None
-absent None no = refl
-absent (Some f) no = absent_with f (declared_kind f.kind) no
+absent None not_there = refl
+absent (Some f) not_there = absent_with f (declared_kind f.kind) not_there
 
 pub lists_no : (shown : Option Face) (interface : List ℕ) → declares shown ≡ false → false ≡ rules.lists_interface interface (type_shown shown)
-lists_no shown interface no = sym (ap (rules.lists_interface interface) (absent shown no))
+lists_no shown interface not_there = sym (ap (rules.lists_interface interface) (absent shown not_there))
 
 pub field_no : (shown : Option Face) (name : Name) → declares shown ≡ false → None ≡ rules.field_in name (type_shown shown)
-field_no shown name no = sym (ap (rules.field_in name) (absent shown no))
+field_no shown name not_there = sym (ap (rules.field_in name) (absent shown not_there))
 
 pub member_no : (shown : Option Face) (key : List ℕ) → declares shown ≡ false → None ≡ rules.member_in key (type_shown shown)
-member_no shown key no = sym (ap (rules.member_in key) (absent shown no))
+member_no shown key not_there = sym (ap (rules.member_in key) (absent shown not_there))
 
 pub members_no : (shown : Option Face) → declares shown ≡ false → [] ≡ rules.members_in (type_shown shown)
-members_no shown no = sym (ap rules.members_in (absent shown no))
+members_no shown not_there = sym (ap rules.members_in (absent shown not_there))
 
 pub maker_no : (shown : Option Face) (class : Name) → declares shown ≡ false → None ≡ rules.maker_in class (type_shown shown)
-maker_no shown class no = sym (ap (rules.maker_in class) (absent shown no))
+maker_no shown class not_there = sym (ap (rules.maker_in class) (absent shown not_there))
 
 -- ---- one that is
 
 lists_with : (f : Face) (interface : List ℕ) (k : Option TypeKind) → is_some k ≡ true
     → list_any (λ n. bytes_eq n interface) f.implements ≡ rules.lists_interface interface (shown_with f k)
-lists_with f interface None yes = absurd (cc)
-lists_with f interface (Some k) yes = refl
+lists_with f interface None there = absurd (cc)
+lists_with f interface (Some k) there = refl
 
 pub lists_yes : (shown : Option Face) (interface : List ℕ) → declares shown ≡ true
     → list_any (λ n. bytes_eq n interface) (look.interfaces_in shown) ≡ rules.lists_interface interface (type_shown shown)
-lists_yes None interface yes = absurd (cc)
-lists_yes (Some f) interface yes = lists_with f interface (declared_kind f.kind) yes
+lists_yes None interface there = absurd (cc)
+lists_yes (Some f) interface there = lists_with f interface (declared_kind f.kind) there
 
 field_with : (f : Face) (name : Name) (k : Option TypeKind) → is_some k ≡ true → look.field_in (Some f) name ≡ rules.field_in name (shown_with f k)
-field_with f name None yes = absurd (cc)
-field_with f name (Some k) yes = refl
+field_with f name None there = absurd (cc)
+field_with f name (Some k) there = refl
 
 pub field_yes : (shown : Option Face) (name : Name) → declares shown ≡ true → look.field_in shown name ≡ rules.field_in name (type_shown shown)
-field_yes None name yes = absurd (cc)
-field_yes (Some f) name yes = field_with f name (declared_kind f.kind) yes
+field_yes None name there = absurd (cc)
+field_yes (Some f) name there = field_with f name (declared_kind f.kind) there
 
 member_with : (f : Face) (key : List ℕ) (k : Option TypeKind) → is_some k ≡ true → look.member_in (Some f) key ≡ rules.member_in key (shown_with f k)
-member_with f key None yes = absurd (cc)
-member_with f key (Some k) yes = refl
+member_with f key None there = absurd (cc)
+member_with f key (Some k) there = refl
 
 pub member_yes : (shown : Option Face) (key : List ℕ) → declares shown ≡ true → look.member_in shown key ≡ rules.member_in key (type_shown shown)
-member_yes None key yes = absurd (cc)
-member_yes (Some f) key yes = member_with f key (declared_kind f.kind) yes
+member_yes None key there = absurd (cc)
+member_yes (Some f) key there = member_with f key (declared_kind f.kind) there
 
 members_with : (f : Face) (k : Option TypeKind) → is_some k ≡ true → f.members ≡ rules.members_in (shown_with f k)
-members_with f None yes = absurd (cc)
-members_with f (Some k) yes = refl
+members_with f None there = absurd (cc)
+members_with f (Some k) there = refl
 
 pub members_yes : (shown : Option Face) → declares shown ≡ true → look.members_in shown ≡ rules.members_in (type_shown shown)
-members_yes None yes = absurd (cc)
-members_yes (Some f) yes = members_with f (declared_kind f.kind) yes
+members_yes None there = absurd (cc)
+members_yes (Some f) there = members_with f (declared_kind f.kind) there
 
 -- ---- a type has the name by which it is shown
 
 maker_with : (f : Face) (class : Name) (k : Option TypeKind) → f.name ≡ class → is_some k ≡ true → look.constructor_in (Some f) ≡ rules.maker_in class (shown_with f k)
-maker_with f class None same yes = absurd (cc)
-maker_with f class (Some k) same yes = ap (λ c. find (λ (m : MemberFace). starts_with nat_eq m.key (rules.maker_front c)) f.members) same
+maker_with f class None same there = absurd (cc)
+maker_with f class (Some k) same there = ap (λ c. find (λ (m : MemberFace). starts_with nat_eq m.key (rules.maker_front c)) f.members) same
 
 maker_shown : (shown : Option Face) (class : Name) → ((f : Face) → shown ≡ Some f → declares (Some f) ≡ true → f.name ≡ class) → declares shown ≡ true
     → look.constructor_in shown ≡ rules.maker_in class (type_shown shown)
-maker_shown None class same yes = absurd (cc)
-maker_shown (Some f) class same yes = maker_with f class (declared_kind f.kind) (same f refl yes) yes
+maker_shown None class same there = absurd (cc)
+maker_shown (Some f) class same there = maker_with f class (declared_kind f.kind) (same f refl there) there
 
 surface_name : Named → Name
 surface_name t = t.surface.name
@@ -154,6 +154,6 @@ face_name seen name f e =
 
 pub maker_yes : (seen : Seen) (class : Name) → declares (face seen class) ≡ true
     → look.constructor_in (face seen class) ≡ rules.maker_in class (type_shown (face seen class))
-maker_yes seen class yes = maker_shown (face seen class) class (λ f is some. face_name seen class f is) yes
+maker_yes seen class there = maker_shown (face seen class) class (λ f is some. face_name seen class f is) there
 
 pub ruleset shows = (kind_shows, lists_no, lists_yes, field_no, field_yes, member_no, member_yes, members_no, members_yes, maker_no, maker_yes)

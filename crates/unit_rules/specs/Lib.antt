@@ -5,5 +5,4 @@ pub mod Faults
 pub mod Consulted
 pub mod Implements
 pub mod Assumed
-pub mod Declarations
 pub mod Headers

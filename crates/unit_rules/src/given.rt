@@ -214,8 +214,10 @@ fn given_count(
 fn put_copies(out: &mut Items<u32>, at: u32, count: usize) -> Result<(), OutOfMemory>
     ensures { OnOk result (out.new ≡ out.old ++ replicate count at) }
 {
-    for _ in 0..count {
+    let mut put = 0;
+    while put < count {
         out.push(at)?;
+        put += 1;
     }
     Ok(())
 }
@@ -228,6 +230,7 @@ pub(crate) fn begun(
 ) -> Result<Items<u32>, OutOfMemory>
     ensures { IfOk result (λ places. places ≡ spec.begun (spec.all_written annotations.now) promises.now) }
 {
+    let len = promises.len();
     let mut out = Items::new(alloc);
     let mut from = 0;
     for annotation in annotations {
@@ -235,7 +238,7 @@ pub(crate) fn begun(
         put_copies(&mut out, annotation.at, count)?;
         from += count;
     }
-    put_copies(&mut out, 1, promises.len() - from)?;
+    put_copies(&mut out, 1, len - from)?;
     Ok(out)
 }
 

@@ -1,4 +1,6 @@
 ghost use Rattle.std.specs.Prelude.{◌≡◌};
+ghost use Rattle.std.specs.List.{list_any};
+ghost use Rattle.std.specs.Str.{bytes_eq};
 ghost use Rattle.views.specs.Face.{face};
 ghost use Rattle.unit_rules.specs.Shown as spec;
 
@@ -21,6 +23,12 @@ fn declared_kind(kind: FaceKind) -> Option<TypeKind>
         FaceKind::String => None,
         FaceKind::Runnable => None,
     }
+}
+
+fn is_among(names: &[Name], name: &[u8]) -> bool
+    ensures { result ≡ list_any (λ n. bytes_eq n name.now) names.now }
+{
+    names.iter().any(|other| other.as_slice() == name)
 }
 
 /// The declared types that a view shows. Contracts see what the view is seen as.
@@ -76,13 +84,7 @@ impl<'t> TypeTable for ViewTypes<'t> {
     }
 
     fn lists(&self, class: &Name, interface: &[u8]) -> bool {
-        if !self.declares(class) {
-            return false;
-        }
-        self.view
-            .interfaces(class)
-            .iter()
-            .any(|name| name.as_slice() == interface)
+        self.declares(class) && is_among(self.view.interfaces(class), interface)
     }
 
     fn field(&self, class: &Name, name: &Name) -> Option<&FieldFace> {
