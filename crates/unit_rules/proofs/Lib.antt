@@ -1,3 +1,4 @@
 pub mod Shows
 pub mod Lists
 pub mod Beginnings
+pub mod Implementing

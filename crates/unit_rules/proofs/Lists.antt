@@ -5,11 +5,12 @@ use Rattle.std.specs.List.{flat_map, list_all, slice_get}
 use Rattle.std.specs.Ordering.{nat_cmp}
 use Rattle.std.specs.Cmp.Lexicographic.{slice_cmp}
 use Rattle.std.specs.BTreeSet.{insert_key}
+use Rattle.std.proofs.lemmas.Bool.{eqb-true}
 use Rattle.std.proofs.lemmas.Grind.{common_steps}
 use Rattle.bound_unit.specs.Names.{Name}
 use Rattle.result_records.specs.declared.finding.Finding.{Finding}
 use Rattle.unit_rules.specs.Consulted.{put_among}
-use Rattle.unit_rules.specs.Faults.{firsts_after}
+use Rattle.unit_rules.specs.Faults.{firsts, firsts_after}
 
 -- the element at an index is the first of what is left there
 pub drop_one : {A : Type 0} (xs : List A) (i : ℕ) (x : A) → i < length xs → x ≡ get_or xs i x → drop i xs ≡ x ∷ drop (i + 1) xs
@@ -75,26 +76,26 @@ all_fails test (y ∷ xs) (suc i) (suc n) x less is within fails = go (test y) (
 
 -- ---- the first of each place
 
-firsts_here : (b : Bool) (at : ℕ) (f : Finding) (rest : List Finding) → nat_eq f.place at ≡ b
-    → firsts_after at (f ∷ rest) ≡ cond b (firsts_after at rest) (f ∷ firsts_after f.place rest)
-firsts_here b at f rest is = ap (λ c. cond c (firsts_after at rest) (f ∷ firsts_after f.place rest)) is
+same_place : (a b : ℕ) → nat_eq a b ≡ true → a ≡ b
+same_place a b e = eqb-true a b e
 
--- one at the place of the last one is left out
-pub firsts_skip : (start at : ℕ) (front out : List Finding) (f : Finding) → nat_eq f.place at ≡ true
-    → ((rest : List Finding) → firsts_after start (front ++ rest) ≡ out ++ firsts_after at rest)
-    → (rest : List Finding) → firsts_after start ((front ++ f ∷ []) ++ rest) ≡ out ++ firsts_after at rest
-firsts_skip start at front out f same before rest =
-    ap (firsts_after start) (append_assoc front (f ∷ []) rest)
-    ∙ (before (f ∷ rest) ∙ ap (λ l. out ++ l) (firsts_here true at f rest same))
+firsts_one : (at : ℕ) (f : Finding) (rest : List Finding) → firsts_after at (f ∷ rest) ≡ firsts_after at (f ∷ []) ++ firsts_after f.place rest
+firsts_one at f rest = go (nat_eq f.place at) refl
+  where
+    go : (b : Bool) → nat_eq f.place at ≡ b → cond b (firsts_after at rest) (f ∷ firsts_after f.place rest) ≡ cond b [] (f ∷ []) ++ firsts_after f.place rest
+    go true e = ap (λ p. firsts_after p rest) (sym (same_place f.place at e))
+    go false e = refl
 
-pub firsts_put : (start at : ℕ) (front old new : List Finding) (f : Finding) → nat_eq f.place at ≡ false → new ≡ old ++ f ∷ []
-    → ((rest : List Finding) → firsts_after start (front ++ rest) ≡ old ++ firsts_after at rest)
-    → (rest : List Finding) → firsts_after start ((front ++ f ∷ []) ++ rest) ≡ new ++ firsts_after f.place rest
-firsts_put start at front old new f other put before rest =
-    ap (firsts_after start) (append_assoc front (f ∷ []) rest)
-    ∙ (before (f ∷ rest) ∙ (ap (λ l. old ++ l) (firsts_here false at f rest other)
-    ∙ (sym (append_assoc old (f ∷ []) (firsts_after f.place rest)) ∙ ap (λ l. l ++ firsts_after f.place rest) (sym put))))
+-- one more is put where it is the first of its place
+pub firsts_step : (last at : ℕ) (front old new : List Finding) (f : Finding) → at ≡ f.place → new ≡ old ++ firsts_after last (f ∷ [])
+    → ((rest : List Finding) → firsts_after 0 (front ++ rest) ≡ old ++ firsts_after last rest)
+    → (rest : List Finding) → firsts_after 0 ((front ++ f ∷ []) ++ rest) ≡ new ++ firsts_after at rest
+firsts_step last at front old new f place put before rest =
+    ap (firsts_after 0) (append_assoc front (f ∷ []) rest)
+    ∙ (before (f ∷ rest) ∙ (ap (λ l. old ++ l) (firsts_one last f rest)
+    ∙ (sym (append_assoc old (firsts_after last (f ∷ [])) (firsts_after f.place rest))
+    ∙ (ap (λ l. l ++ firsts_after f.place rest) (sym put) ∙ ap (λ p. new ++ firsts_after p rest) (sym place)))))
 
-pub firsts_all : (start at : ℕ) (front out : List Finding) → ((rest : List Finding) → firsts_after start (front ++ rest) ≡ out ++ firsts_after at rest)
-    → out ≡ firsts_after start front
-firsts_all start at front out all = sym (append-nil out) ∙ (sym (all []) ∙ ap (firsts_after start) (append-nil front))
+pub firsts_all : (last : ℕ) (front out : List Finding) → ((rest : List Finding) → firsts_after 0 (front ++ rest) ≡ out ++ firsts_after last rest)
+    → out ≡ firsts front
+firsts_all last front out all = sym (append-nil out) ∙ (sym (all []) ∙ ap (firsts_after 0) (append-nil front))

@@ -1,4 +1,4 @@
-ghost use Rattle.std.specs.Prelude.{◌≡◌, ◌++◌, IfOk, OnOk};
+ghost use Rattle.std.specs.Prelude.{◌≡◌, ◌++◌, ◌∷◌, [], IfOk, OnOk};
 ghost use Rattle.std.specs.List.{flat_map};
 ghost use Rattle.std.specs.Option.{option_copied};
 ghost use Rattle.finding_order.specs.Numbers.{in_order};
@@ -126,6 +126,23 @@ fn in_places(alloc: Global, findings: Items<Finding>) -> Result<Items<Finding>, 
     Ok(out)
 }
 
+/// Puts a finding behind the first ones, the last of which is at a place, unless it is there too. It
+/// answers its place.
+fn put_first(
+    finding: Finding,
+    last: u32,
+    out: &mut Items<Finding>,
+) -> Result<u32, OutOfMemory>
+    ensures place { IfOk result (λ at. at ≡ finding.place) }
+    ensures out { OnOk result (out.new ≡ out.old ++ spec.firsts_after last (finding ∷ [])) }
+{
+    let at = finding.place;
+    if at != last {
+        out.push(finding)?;
+    }
+    Ok(at)
+}
+
 /// Of findings in order, the first at each place. Places are from 1.
 fn firsts(alloc: Global, findings: Items<Finding>) -> Result<Items<Finding>, OutOfMemory>
     ensures { IfOk result (λ out. out ≡ spec.firsts findings) }
@@ -133,10 +150,7 @@ fn firsts(alloc: Global, findings: Items<Finding>) -> Result<Items<Finding>, Out
     let mut out = Items::new(alloc);
     let mut last = 0;
     for finding in into_vec(alloc, findings)? {
-        if finding.place != last {
-            last = finding.place;
-            out.push(finding)?;
-        }
+        last = put_first(finding, last, &mut out)?;
     }
     Ok(out)
 }
