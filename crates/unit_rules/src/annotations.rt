@@ -150,7 +150,11 @@ fn put_mods(places: &Places<'_>, mods: &[Mod], out: &mut Items<u32>) -> Result<(
     Ok(())
 }
 
-fn put_params(places: &Places<'_>, params: &[Param], out: &mut Items<u32>) -> Result<(), OutOfMemory>
+fn put_params(
+    places: &Places<'_>,
+    params: &[Param],
+    out: &mut Items<u32>,
+) -> Result<(), OutOfMemory>
     ensures { OnOk result (out.new ≡ out.old ++ flat_map (spec.param_begins (number_of places.now)) params.now) }
 {
     for param in params {
@@ -181,7 +185,12 @@ fn put_member(
     match member {
         MemberTree::Field(field) => put_mods(places, field.mods.as_slice(), out),
         MemberTree::Method(method) => {
-            put_with_params(places, method.mods.as_slice(), method.params.as_slice(), out)
+            put_with_params(
+                places,
+                method.mods.as_slice(),
+                method.params.as_slice(),
+                out,
+            )
         }
         MemberTree::Sig(sig) => {
             put_with_params(places, sig.mods.as_slice(), sig.params.as_slice(), out)

@@ -61,10 +61,7 @@ fn put_all_told(
     Ok(())
 }
 
-fn put_interfaces(
-    interfaces: &[Name],
-    names: &mut Items<Name>,
-) -> Result<(), OutOfMemory>
+fn put_interfaces(interfaces: &[Name], names: &mut Items<Name>) -> Result<(), OutOfMemory>
     ensures { OnOk result (names.new ≡ names.old ++ interfaces.now) }
 {
     for name in interfaces {

@@ -128,11 +128,7 @@ fn in_places(alloc: Global, findings: Items<Finding>) -> Result<Items<Finding>, 
 
 /// Puts a finding behind the first ones, the last of which is at a place, unless it is there too. It
 /// answers its place.
-fn put_first(
-    finding: Finding,
-    last: u32,
-    out: &mut Items<Finding>,
-) -> Result<u32, OutOfMemory>
+fn put_first(finding: Finding, last: u32, out: &mut Items<Finding>) -> Result<u32, OutOfMemory>
     ensures place { IfOk result (λ at. at ≡ finding.place) }
     ensures out { OnOk result (out.new ≡ out.old ++ spec.firsts_after last (finding ∷ [])) }
 {

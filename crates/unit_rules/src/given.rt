@@ -190,11 +190,7 @@ fn gives_next(
 }
 
 /// How many of the promises from a place on an annotation gives.
-fn given_count(
-    annotation: &Written<'_>,
-    promises: &UnitPromises<'_>,
-    from: usize,
-) -> usize
+fn given_count(annotation: &Written<'_>, promises: &UnitPromises<'_>, from: usize) -> usize
     requires { from ≤ length promises.now }
     ensures value { result ≡ spec.given_count (spec.written_as annotation.now) (drop from promises.now) }
     ensures within { from + result ≤ length promises.now }

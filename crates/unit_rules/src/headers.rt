@@ -18,11 +18,7 @@ use promise_marks::Mark;
 use std::alloc::Global;
 use views::View;
 
-fn words(
-    alloc: Global,
-    places: &Places<'_>,
-    names: &[Lexeme],
-) -> Result<Items<Word>, OutOfMemory>
+fn words(alloc: Global, places: &Places<'_>, names: &[Lexeme]) -> Result<Items<Word>, OutOfMemory>
     ensures { IfOk result (λ words. words ≡ map (spec.word_of (number_of places.now)) names.now) }
 {
     let mut words = Items::new(alloc);
@@ -73,7 +69,14 @@ pub fn bind_header(
     let begins = header_begins(alloc, places, class)?;
     let annotations = header_annotations(alloc, class, marks, begins.as_slice())?;
     let name = &class.name.text;
-    put_implements(alloc, view, places, name, class.implements.as_slice(), notes)?;
+    put_implements(
+        alloc,
+        view,
+        places,
+        name,
+        class.implements.as_slice(),
+        notes,
+    )?;
     put_assumptions(alloc, view, annotations.as_slice(), notes)?;
     tree_with(alloc, view, places, class, key, annotations.as_slice())
 }
