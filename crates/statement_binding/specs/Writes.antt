@@ -90,8 +90,11 @@ step_op step.Increment = arithmetic.Add
 step_op step.Decrement = arithmetic.Subtract
 
 -- by one, which stands where the sign is
+abbrev pub one : ℕ → Bound
+one at = constant at value.Int (literal.Int 1)
+
 abbrev pub stepped : Ground → Scope → StepOp → ℕ → PlainExpr → Done
-stepped g scope op at target = changed g scope (step_op op) target (constant at value.Int (literal.Int 1))
+stepped g scope op at target = changed g scope (step_op op) target (one at)
 
 -- ---- actions
 
@@ -106,13 +109,21 @@ performed v = record { made = t.Perform v.term; notes = v.notes }
 abbrev pub started : ℕ → Bound → Done
 started at v = record { made = t.Start at v.term; notes = v.notes }
 
+-- a call or `new` whose value is dropped
+abbrev pub dropped : Ground → Scope → PlainExpr → Done
+dropped g scope v = performed (fitted g scope Anywhere v)
+
+-- the start of a thread, by the number of the word `new`
+abbrev pub thread : Ground → Scope → ℕ → PlainExpr → Done
+thread g scope at v = started at (fitted g scope Started v)
+
 abbrev pub action : Ground → Scope → PlainAction → Done
 action g scope (p.Assign target op at v) = by_sign g scope op target v
 action g scope (p.StepAfter target op at) = stepped g scope op (suc at) target
 action g scope (p.StepBefore at op target) = stepped g scope op (suc at) target
-action g scope (p.Call call) = performed (fitted g scope Anywhere call)
-action g scope (p.New made) = performed (fitted g scope Anywhere made)
-action g scope (p.Start at v closing) = started (suc at) (fitted g scope Started v)
+action g scope (p.Call call) = dropped g scope call
+action g scope (p.New made) = dropped g scope made
+action g scope (p.Start at v closing) = thread g scope (suc at) v
 
 -- ---- actions at the top level of a constructor
 
