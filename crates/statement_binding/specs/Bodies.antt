@@ -30,9 +30,10 @@ shown_head h = record { result = option_copied h.result; is_constructor = h.is_c
 
 -- ---- the top level of a constructor
 
-abbrev pub top_statement : Ground → Option FaceTy → Written → Locals → PlainStmt → Done
-top_statement g result written ls (p.Action does at) = top_action g ls.scope written does
-top_statement g result written ls s = statement g result ls s
+-- it returns nothing
+abbrev pub top_statement : Ground → Written → Locals → PlainStmt → Done
+top_statement g written ls (p.Action does at) = top_action g ls.scope written does
+top_statement g written ls s = statement g None ls s
 
 abbrev pub field_set : Ground → Scope → PlainStmt → Option Name
 field_set g scope (p.Action does at) = field_written g scope does
@@ -42,10 +43,10 @@ field_set g scope _ = None
 abbrev pub written_behind : Ground → Written → Scope → PlainStmt → Written
 written_behind g written scope s = with_written written (field_set g scope s)
 
-unfoldable pub top_statements : Ground → Option FaceTy → Written → Locals → PlainStmts → DoneAll
-top_statements g result written ls p.no_stmts = none_done
-top_statements g result written ls (p.stmt s others) =
-    before_others (top_statement g result written ls s) (top_statements g result (written_behind g written ls.scope s) (behind ls s) others)
+unfoldable pub top_statements : Ground → Written → Locals → PlainStmts → DoneAll
+top_statements g written ls p.no_stmts = none_done
+top_statements g written ls (p.stmt s others) =
+    before_others (top_statement g written ls s) (top_statements g (written_behind g written ls.scope s) (behind ls s) others)
 
 -- ---- bodies
 
@@ -55,7 +56,7 @@ items_of s = p.stmt s p.no_stmts
 
 abbrev pub items_done : Ground → Head → Locals → PlainStmts → DoneAll
 items_done g head ls items =
-    if head.is_constructor then top_statements g head.result [] ls items else statements g head.result ls items
+    if head.is_constructor then top_statements g [] ls items else statements g head.result ls items
 
 -- a body that has to return a value can't end normally; else the finding is at the member's name
 abbrev pub end_notes : Head → PlainStmt → List Note

@@ -31,9 +31,12 @@ use Rattle.statement_binding.specs.Writes.{action}
 abbrev pub condition : Ground → Scope → PlainExpr → Bound
 condition g scope test = fitted g scope (Of face.Bool) test
 
+abbrev pub always : ℕ → Bound
+always at = constant at value.Boolean (literal.Boolean true)
+
 -- of a `for`; one that isn't written is `true`, at the word `for`
 abbrev pub condition_if_any : Ground → Scope → ℕ → Option PlainExpr → Bound
-condition_if_any g scope at None = constant at value.Boolean (literal.Boolean true)
+condition_if_any g scope at None = always at
 condition_if_any g scope at (Some test) = condition g scope test
 
 abbrev pub chosen : Bound → Done → Done → Done
@@ -76,16 +79,25 @@ abbrev pub shown_held : written.Held → Held
 shown_held (held.Object v) = OnObject (term_of v)
 shown_held (held.Class at c) = OnClass at c
 
-abbrev pub held_by : Ground → Scope → PlainMonitor → Held
-held_by g scope (p.Object v) = OnObject (fitted g scope Locked v).term
-held_by g scope (p.Class w at) = OnClass (suc w.at) w.text
+abbrev pub held_object : Ground → Scope → PlainExpr → Held
+held_object g scope v = OnObject (fitted g scope Locked v).term
+
+abbrev pub object_notes : Ground → Scope → PlainExpr → List Note
+object_notes g scope v = (fitted g scope Locked v).notes
+
+abbrev pub held_class : PlainLexeme → Held
+held_class w = OnClass (suc w.at) w.text
 
 -- the name before `.class` stands as a type, and is that of a class or interface that is declared
 abbrev pub class_notes : Types → PlainLexeme → List Note
 class_notes types w = Names w.text ∷ found_if (not (is_declared types w.text)) code.UnknownType (suc w.at)
 
+abbrev pub held_by : Ground → Scope → PlainMonitor → Held
+held_by g scope (p.Object v) = held_object g scope v
+held_by g scope (p.Class w at) = held_class w
+
 abbrev pub held_notes : Ground → Scope → PlainMonitor → List Note
-held_notes g scope (p.Object v) = (fitted g scope Locked v).notes
+held_notes g scope (p.Object v) = object_notes g scope v
 held_notes g scope (p.Class w at) = class_notes g.types w
 
 abbrev pub locked_by : Held → Statement → Statement

@@ -127,8 +127,12 @@ action g scope (p.Start at v closing) = thread g scope (suc at) v
 
 -- ---- actions at the top level of a constructor
 
+-- a final field without initializer may be written for the first time
+abbrev pub top_set : Ground → Scope → Written → PlainExpr → PlainExpr → Done
+top_set g scope written target v = set g scope (is_first_write written (blank_target g scope target)) target v
+
 abbrev pub by_top_sign : Ground → Scope → Written → AssignOp → PlainExpr → PlainExpr → Done
-by_top_sign g scope written sign.Set target v = set g scope (is_first_write written (blank_target g scope target)) target v
+by_top_sign g scope written sign.Set target v = top_set g scope written target v
 by_top_sign g scope written sign.Add target v = by_sign g scope sign.Add target v
 by_top_sign g scope written sign.Subtract target v = by_sign g scope sign.Subtract target v
 
