@@ -28,7 +28,7 @@ use Rattle.name_rules.specs.Notes.{found_if}
 use Rattle.name_rules.specs.Scopes.{Scope}
 use Rattle.expression_binding.specs.Bound.{Ground, grounded}
 use Rattle.statement_binding.specs.Bodies.{Head, body}
-use Rattle.statement_binding.specs.Declared.{declared_notes}
+use Rattle.statement_binding.specs.DeclaredTypes.{declared_notes}
 use Rattle.statement_binding.specs.Done.{Done}
 use Rattle.statement_binding.specs.Initials.{initial, initial_notes}
 use Rattle.bound_unit.specs.Names.{Name, Faces}

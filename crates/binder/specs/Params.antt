@@ -15,7 +15,7 @@ use Rattle.name_rules.specs.Types.{Types}
 use Rattle.name_rules.specs.Notes.{found_if}
 use Rattle.name_rules.specs.Scopes.{Scope, in_scope, with_entry}
 use Rattle.expression_binding.specs.Stamps.{type_of}
-use Rattle.statement_binding.specs.Declared.{declared_notes}
+use Rattle.statement_binding.specs.DeclaredTypes.{declared_notes}
 
 abbrev pub value_type : Ty → ValueType
 value_type t = type_of (face_ty t)
