@@ -14,7 +14,7 @@ tail_same x a b e = cc
 numbers_same : (m n : ℕ) → m < 2 ^ 64 → n < 2 ^ 64 → numbered m ≡ numbered n → m ≡ n
 numbers_same m n low high e = decimal_injective m n low high (tail_same 35 (decimal m) (decimal n) e)
 
-no_place : (m : ℕ) → 1 ≡ unwrap_or (slice_get {ℕ} [] m) 1
+no_place : (m : ℕ) → 1 ≡ unwrap_or (slice_get {X = ℕ} [] m) 1
 no_place zero = refl
 no_place (suc m) = refl
 
@@ -63,7 +63,13 @@ none_at_zero detail n (at ∷ places) low fits is = go (bytes_eq detail (numbere
 
 pub place_by_number : (detail : List ℕ) (k : ℕ) (places : List ℕ) → k < 2 ^ 64 → length places < 2 ^ 64 → detail ≡ numbered k → place_at places k ≡ place_from detail 1 places
 place_by_number detail zero places small fits is = sym (none_at_zero detail 1 places (omega arith) (omega arith) is)
-place_by_number detail (suc k) places small fits is = sym (found_at detail (suc k) 1 places small (omega arith) is (omega arith))
+place_by_number detail (suc k) places small fits is =
+    let same : suc k - 1 ≡ k = omega arith in
+    sym (found_at detail (suc k) 1 places small (omega arith) is (omega arith) ∙ ap (λ i. unwrap_or (slice_get places i) 1) same)
 
 pub place_by_none : (detail places : List ℕ) → length places < 2 ^ 64 → ((k : ℕ) → k < 2 ^ 64 → detail ≢ numbered k) → 1 ≡ place_from detail 1 places
 place_by_none detail places fits none = sym (none_at detail 1 places (omega arith) none)
+
+pub place_by_code : (places : List ℕ) (k : ℕ) (place : ℕ) → k ≢ 0 → place ≡ unwrap_or (slice_get places (k - 1)) 1 → place ≡ place_at places k
+place_by_code places zero place some is = absurd (some refl)
+place_by_code places (suc k) place some is = let same : suc k - 1 ≡ k = omega arith in is ∙ ap (λ i. unwrap_or (slice_get places i) 1) same

@@ -1,5 +1,5 @@
 -- The promises of a unit: those that stand there, then those that are set aside there.
-use Rattle.std.specs.Prelude.{ℕ, ◌+◌, ◌-◌, ◌==◌, Bool, List, [], ◌∷◌, ◌++◌, Option, Some, None, map, filter, unwrap_or, if◌then◌else◌}
+use Rattle.std.specs.Prelude.{ℕ, zero, suc, ◌+◌, Bool, List, [], ◌∷◌, ◌++◌, Option, Some, None, map, filter, unwrap_or, if◌then◌else◌}
 use Rattle.std.specs.List.{slice_get}
 use Rattle.std.specs.Str.{bytes_eq}
 use Rattle.promise_scrub.specs.Verdicts.{numbered}
@@ -40,8 +40,10 @@ unit_promises shown unit places asides = map standing_promise (standing_at shown
 
 -- ---- what the code does at once
 
+-- by its number, from 1
 abbrev pub place_at : List ℕ → ℕ → ℕ
-place_at places number = if number == 0 then 1 else unwrap_or (slice_get places (number - 1)) 1
+place_at places zero = 1
+place_at places (suc before) = unwrap_or (slice_get places before) 1
 
 abbrev pub promise_if : Option Standing → List UnitPromise
 promise_if None = []

@@ -1,4 +1,4 @@
-ghost use Rattle.std.specs.Prelude.{◌≡◌, ◌≢◌, ◌<◌, ◌^◌, ◌++◌, ℕ, IfOk, OnOk, MatchOption, map};
+ghost use Rattle.std.specs.Prelude.{◌≡◌, ◌≢◌, ◌↔◌, ◌<◌, ◌^◌, ◌++◌, ℕ, IfOk, IsTrue, OnOk, MatchOption, decimal, map};
 ghost use Rattle.std.specs.Option.{option_copied};
 ghost use Rattle.promise_scrub.specs.Verdicts.{numbered};
 ghost use Rattle.views.specs.Face.{face};
@@ -13,17 +13,37 @@ use std::alloc::Global;
 use unit_findings::UnitPromise;
 use views::{UnitPromises, View};
 
+fn is_written(digits: &str, number: usize) -> bool
+    ensures { IsTrue result ↔ (digits.now ≡ decimal number) }
+{
+    let mut buffer = Buffer::new();
+    let written = buffer.format(number);
+    digits == written
+}
+
+/// The number whose decimals a text is.
+fn plain_number(digits: &str) -> Option<usize>
+    ensures { MatchOption result ((k : ℕ) → k < 2 ^ 64 → digits.now ≢ decimal k) (λ k. digits.now ≡ decimal k) }
+{
+    match digits.parse::<usize>() {
+        Ok(number) => {
+            if is_written(digits, number) {
+                Some(number)
+            } else {
+                None
+            }
+        }
+        Err(_) => None,
+    }
+}
+
 /// The number that a detail says behind its sign.
 fn number_in(detail: &Text) -> Option<usize>
     ensures { MatchOption result ((k : ℕ) → k < 2 ^ 64 → detail.now ≢ numbered k) (λ k. detail.now ≡ numbered k) }
 {
-    let digits = detail.as_str().strip_prefix("#")?;
-    let number = digits.parse::<usize>().ok()?;
-    let mut buffer = Buffer::new();
-    if buffer.format(number) == digits {
-        Some(number)
-    } else {
-        None
+    match detail.as_str().strip_prefix('#') {
+        Some(digits) => plain_number(digits),
+        None => None,
     }
 }
 
