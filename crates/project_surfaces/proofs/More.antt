@@ -1,9 +1,9 @@
 -- One more type.
-use Rattle.std.proofs.Common.{◌≡◌, ◌≢◌, ℕ, ◌+◌, ◌<◌, List, [], ◌∷◌, ◌++◌, length, get_or, map, take, refl, sym, ap, ◌∙◌, subst, append_assoc, append-nil}
+use Rattle.std.proofs.Common.{◌≡◌, ◌≢◌, ℕ, zero, suc, ◌+◌, ◌<◌, arith, List, [], ◌∷◌, ◌++◌, length, get_or, map, take, refl, sym, ap, ◌∙◌, subst, append_assoc, append-nil}
 use Rattle.std.specs.Prelude.{Option, Some, None, All, IsTrue, ◌↔◌, Bool, true, false, fold}
 use Rattle.std.specs.Borrow.{Bor}
 use Rattle.std.specs.List.{AllZip, Contains, flat_map}
-use Rattle.std.proofs.lemmas.List.{flat_map_more, map-append, take_more}
+use Rattle.std.proofs.lemmas.List.{flat_map_more, length-append, map-append, take_more}
 use Rattle.std.proofs.lemmas.List.Elements.{All-push}
 use Rattle.std.proofs.lemmas.List.Sums.{fold-append}
 use Rattle.desk_base.specs.declared.key.PromiseKey.{PromiseKey}
@@ -25,9 +25,6 @@ use Rattle.project_surfaces.proofs.Named.{named_face, not_before, other_names}
 use Rattle.project_surfaces.proofs.Zipped.{zip_push}
 
 -- ---- the form
-
-OneFace : Type 0
-OneFace = (class : Rattle.java_tree.specs.declared.file.ClassTree.ClassTree) (a b : Face) → Surface class a → Surface class b → a ≡ b
 
 pub unfit_stays : (types : List ClassText) (t : ClassText) (path : Bor (List ℕ)) → UnfitOf types (Some path) → UnfitOf (types ++ t ∷ []) (Some path)
 unfit_stays types t path first = record {
@@ -75,11 +72,32 @@ surfaces_more types t face old new keys more is apart put told so = record {
 
 -- ---- types of files
 
-no_repeat_front : (front rest : List ClassText) → NoRepeat (front ++ rest) → NoRepeat front
-no_repeat_front front rest apart = ?
+same_front : {X : Type 0} (xs ys : List X) (i : ℕ) (d : X) → i < length xs → get_or (xs ++ ys) i d ≡ get_or xs i d
+same_front [] ys i d low = absurd (omega arith)
+same_front (x ∷ xs) ys zero d low = refl
+same_front (x ∷ xs) ys (suc i) d low = same_front xs ys i d (omega arith)
 
-types_step : (read : List ReadFile) (i : ℕ) (r : ReadFile) (old new : ProjectSurfaces) → i < length read → r ≡ get_or read i r
+-- where no name of types is used twice, none of the first of them is
+pub no_repeat_front : (front rest : List ClassText) → NoRepeat (front ++ rest) → NoRepeat front
+no_repeat_front front rest apart = λ i j d less end.
+    let names = map name_of front in
+    let whole : map name_of (front ++ rest) ≡ names ++ map name_of rest = map-append name_of front rest in
+    let long : length (map name_of (front ++ rest)) ≡ length names + length (map name_of rest) = ap length whole ∙ length-append names (map name_of rest) in
+    let at : (k : ℕ) → k < length names → get_or (map name_of (front ++ rest)) k d ≡ get_or names k d =
+        λ k low. ap (λ (l : List (List ℕ)). get_or l k d) whole ∙ same_front names (map name_of rest) k d low in
+    λ same. apart i j d less (omega arith) (at i (omega arith) ∙ (same ∙ sym (at j end)))
+
+pub types_step : (read : List ReadFile) (i : ℕ) (r : ReadFile) (old new : ProjectSurfaces) → i < length read → r ≡ get_or read i r
     → ((types : List ClassText) → NoRepeat (types ++ map (class_in (tree_file r)) (tree_file r).tree.types) → AreGathered types old → AreGathered (types ++ map (class_in (tree_file r)) (tree_file r).tree.types) new)
     → (NoRepeat (types_of (map tree_file (take i read))) → AreGathered (types_of (map tree_file (take i read))) old)
     → NoRepeat (types_of (map tree_file (take (i + 1) read))) → AreGathered (types_of (map tree_file (take (i + 1) read))) new
-types_step read i r old new low is step so apart = ?
+types_step read i r old new low is step so apart =
+    let P : List ClassText → Type 0 = λ (types : List ClassText). AreGathered types new in
+    let front = map tree_file (take i read) in
+    let more = map (class_in (tree_file r)) (tree_file r).tree.types in
+    let all : map tree_file (take (i + 1) read) ≡ front ++ tree_file r ∷ [] =
+    ap (map tree_file) (take_more read i r low ∙ ap (λ x. take i read ++ x ∷ []) (sym is)) ∙ map-append tree_file (take i read) (r ∷ []) in
+    let types : types_of front ++ more ≡ types_of (map tree_file (take (i + 1) read)) =
+    flat_map_more (λ (g : TreeFile). map (class_in g) g.tree.types) [] front (tree_file r) ∙ ap types_of (sym all) in
+    let differ = subst NoRepeat (sym types) apart in
+    subst P types (step (types_of front) differ (so (no_repeat_front (types_of front) more differ)))

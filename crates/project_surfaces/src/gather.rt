@@ -77,7 +77,8 @@ impl<'a> ProjectSurfaces<'a> {
     {
         put_keys(&surface, &mut self.keys)?;
         self.unfit = unfit_with(self.unfit, path, &surface);
-        put_surface(&mut self.surfaces, surface)
+        put_surface(&mut self.surfaces, surface)?;
+        Ok(())
     }
 
     // Adds a type.
@@ -91,7 +92,8 @@ impl<'a> ProjectSurfaces<'a> {
     {
         surface_regions_stand();
         let surface = surface_of(alloc, class)?;
-        self.put(file.path, surface)
+        self.put(file.path, surface)?;
+        Ok(())
     }
 
     // Adds the types of a file.
