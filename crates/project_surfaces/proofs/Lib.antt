@@ -1,0 +1,4 @@
+pub mod Zipped
+pub mod Named
+pub mod Absent
+pub mod More
