@@ -29,7 +29,10 @@ fn answers_on(
     ensures blamed { IfOk result (λ answers. All (IsBlamedByRow answers.findings) answers.verdicts) }
 {
     blames_are_rows();
-    if !are_apart(promises) || !are_among(promises, found.as_slice()) || !have_ways(found.as_slice()) {
+    if !are_apart(promises)
+        || !are_among(promises, found.as_slice())
+        || !have_ways(found.as_slice())
+    {
         return Err(OutOfMemory);
     }
     project_answers(alloc, sizes, paths, promises, found)

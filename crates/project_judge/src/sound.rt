@@ -65,8 +65,7 @@ fn ways_are_among(promises: &[PromiseKey], ways: &[Alternative]) -> bool
 fn is_among_whole(promises: &[PromiseKey], finding: &Finding) -> bool
     ensures { IsTrue result → FindingAmong promises.now finding.now }
 {
-    is_among(promises, &finding.key.on)
-        && ways_are_among(promises, finding.alternatives.as_slice())
+    is_among(promises, &finding.key.on) && ways_are_among(promises, finding.alternatives.as_slice())
 }
 
 /// Whether findings and their links speak of the promises alone, which are in order.

@@ -84,7 +84,7 @@ no_repeat_front front rest apart = λ i j d less end.
     let whole : map name_of (front ++ rest) ≡ names ++ map name_of rest = map-append name_of front rest in
     let long : length (map name_of (front ++ rest)) ≡ length names + length (map name_of rest) = ap length whole ∙ length-append names (map name_of rest) in
     let at : (k : ℕ) → k < length names → get_or (map name_of (front ++ rest)) k d ≡ get_or names k d =
-        λ k low. ap (λ (l : List (List ℕ)). get_or l k d) whole ∙ same_front names (map name_of rest) k d low in
+    λ k low. ap (λ (l : List (List ℕ)). get_or l k d) whole ∙ same_front names (map name_of rest) k d low in
     λ same. apart i j d less (omega arith) (at i (omega arith) ∙ (same ∙ sym (at j end)))
 
 pub types_step : (read : List ReadFile) (i : ℕ) (r : ReadFile) (old new : ProjectSurfaces) → i < length read → r ≡ get_or read i r

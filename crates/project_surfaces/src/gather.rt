@@ -27,23 +27,13 @@ pub struct ProjectSurfaces<'a> {
 }
 
 /// The path of the first type that isn't judged, of types of which one more has this surface.
-fn unfit_with<'a>(
-    before: Option<&'a [u8]>,
-    path: &'a [u8],
-    surface: &Surface,
-) -> Option<&'a [u8]>
+fn unfit_with<'a>(before: Option<&'a [u8]>, path: &'a [u8], surface: &Surface) -> Option<&'a [u8]>
     ensures { (types : List ClassText) (t : ClassText) → t.path ≡ path.entry.now → IsSurface t.class surface.now → UnfitOf types before.entry → UnfitOf (types ++ t ∷ []) result }
 {
     one_surface();
     match before {
         Some(first) => Some(first),
-        None => {
-            if is_judged(surface) {
-                None
-            } else {
-                Some(path)
-            }
-        }
+        None => { if is_judged(surface) { None } else { Some(path) } }
     }
 }
 

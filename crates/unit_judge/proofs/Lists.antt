@@ -44,10 +44,10 @@ asides_more unit places xs i a old mid new low is before put =
     let front = take i xs in
     let all : take (i + 1) xs ≡ front ++ a ∷ [] = take_more xs i a low ∙ ap (λ x. front ++ x ∷ []) (sym is) in
     let both : aside_promises unit places (take (i + 1) xs) ≡ aside_promises unit places front ++ aside_if unit places a =
-        ap (aside_promises unit places) all
-        ∙ (ap (map (aside_promise places)) (filter-append (is_at unit) front (a ∷ []))
-        ∙ (map-append (aside_promise places) (filter (is_at unit) front) (filter (is_at unit) (a ∷ []))
-        ∙ ap (λ l. aside_promises unit places front ++ l) (one_aside unit places a))) in
+    ap (aside_promises unit places) all
+    ∙ (ap (map (aside_promise places)) (filter-append (is_at unit) front (a ∷ []))
+    ∙ (map-append (aside_promise places) (filter (is_at unit) front) (filter (is_at unit) (a ∷ []))
+    ∙ ap (λ l. aside_promises unit places front ++ l) (one_aside unit places a))) in
     put ∙ (ap (λ l. l ++ aside_if unit places a) before
     ∙ (append_assoc old (aside_promises unit places front) (aside_if unit places a)
     ∙ ap (λ l. old ++ l) (sym both)))

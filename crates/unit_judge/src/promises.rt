@@ -89,10 +89,7 @@ fn put_promise(promise: Option<&Standing>, out: &mut Vec<UnitPromise>) -> Result
     Ok(())
 }
 
-fn put_standing(
-    promises: &UnitPromises<'_>,
-    out: &mut Vec<UnitPromise>,
-) -> Result<(), OutOfMemory>
+fn put_standing(promises: &UnitPromises<'_>, out: &mut Vec<UnitPromise>) -> Result<(), OutOfMemory>
     ensures { OnOk result (out.new.items ≡ out.old.items ++ map spec.standing_promise promises.now) }
 {
     for at in 0..promises.len() {
@@ -152,6 +149,11 @@ pub(crate) fn unit_promises(
     let mut promises = Vec::new(alloc);
     let tree = unit.tree();
     put_standing(&view.standing_at(&tree.class, unit.key()), &mut promises)?;
-    put_asides(unit.key(), tree.annotations.as_slice(), asides, &mut promises)?;
+    put_asides(
+        unit.key(),
+        tree.annotations.as_slice(),
+        asides,
+        &mut promises,
+    )?;
     Ok(promises)
 }
