@@ -1,6 +1,7 @@
 -- A member of a class or interface, bound: by cases of the member.
 use Rattle.std.specs.Prelude.{ℕ, suc, ◌+◌, Bool, true, false, not, if◌then◌else◌, List, [], ◌∷◌, ◌++◌, length, map, codes, Option, Some, None}
 use Rattle.std.specs.List.{list_any}
+use Rattle.std.specs.Option.{option_copied}
 use Rattle.std.specs.Str.{bytes_eq}
 use Rattle.desk_base.specs.declared.span.Span.{Span}
 use Rattle.java_tree.specs.declared.member.Ctor.{Ctor}
@@ -204,7 +205,7 @@ code_as c = record {
   is_static = c.is_static;
   is_synchronized = c.is_synchronized;
   is_constructor = c.is_constructor;
-  result = c.result.now;
+  result = option_copied c.result;
   params = c.params.now;
   block = c.block.now;
 }
