@@ -1,2 +1,3 @@
 pub mod Keys
-pub mod Params
+pub mod Parameters
+pub mod Told

@@ -2,7 +2,7 @@ use Rattle.std.proofs.Common.{arith}
 use Rattle.tree_places.specs.Numbers.{number_of}
 use Rattle.views.specs.Face.{face}
 use Rattle.unit_rules.specs.Shown.{types_shown}
-use Rattle.binder.proofs.Params.{notes_step, scope_step}
+use Rattle.binder.proofs.Parameters.{notes_step, scope_step}
 use Rattle.binder.proofs.params.put_params.Goals as goal
 
 pub loop-param-preserved : goal.loop-param-preserved
