@@ -51,9 +51,13 @@ abbrev pub bad_unless : Bool → ℕ → List Note
 bad_unless fits at = if fits then [] else note.Finding code.BadImplements at ∷ []
 
 -- a name of no type is that alone
-abbrev pub implemented_notes : Faces → Name → (is_new : Bool) → Name → ℕ → List Note
-implemented_notes faces class is_new name at =
+abbrev pub implemented_faults : Faces → Name → (is_new : Bool) → Name → ℕ → List Note
+implemented_faults faces class is_new name at =
     if is_known_name (types_shown faces) name then bad_unless (implemented_once faces class is_new name) at else note.Finding code.UnknownType at ∷ []
+
+-- it is consulted in any case
+abbrev pub implemented_notes : Faces → Name → (is_new : Bool) → Name → ℕ → List Note
+implemented_notes faces class is_new name at = note.Names name ∷ implemented_faults faces class is_new name at
 
 -- Those of names that come behind these, in written order; a name that is among them is repeated.
 abbrev pub implements_after : Faces → (Span → ℕ) → Name → (before : List Name) → List Lexeme → List Note
