@@ -1,11 +1,10 @@
 -- Whether what a class names as implemented is an interface that it implements.
-use Rattle.std.specs.Prelude.{ℕ, suc, ◌==◌, Bool, true, false, ◌&&◌, ◌||◌, not, List, [], ◌∷◌, ◌++◌, length, Option, Some, None, if◌then◌else◌}
+use Rattle.std.specs.Prelude.{ℕ, suc, ◌==◌, Bool, false, ◌&&◌, ◌||◌, not, List, [], ◌∷◌, ◌++◌, length, Option, Some, None, if◌then◌else◌}
 use Rattle.std.specs.List.{after_first, before_first, list_all}
 use Rattle.std.specs.Str.{bytes_eq}
 use Rattle.desk_base.specs.declared.span.Span.{Span}
 use Rattle.java_tree.specs.declared.token.Lexeme.{Lexeme}
 use Rattle.class_faces.specs.declared.face.MemberFace.{MemberFace}
-use Rattle.result_records.specs.declared.code.FindingCode.{FindingCode}
 use Rattle.result_records.specs.declared.code.FindingCode.TheVariants as code
 use Rattle.views.specs.Looks.{member_in, member_key, members_in}
 use Rattle.name_rules.specs.declared.note.Note.{Note}
