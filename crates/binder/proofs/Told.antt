@@ -1,5 +1,5 @@
 -- A unit of what is told of it is the bound one.
-use Rattle.std.proofs.Common.{◌≡◌, ℕ, List, sym, ap, ◌∙◌, subst}
+use Rattle.std.proofs.Common.{◌≡◌, ℕ, List, sym, ap, ◌∙◌}
 use Rattle.std.specs.Prelude.{Option, Result, Ok, Err, IfOk}
 use Rattle.desk_base.specs.declared.memory.OutOfMemory.{OutOfMemory}
 use Rattle.java_tree.specs.declared.file.ClassTree.{ClassTree}

@@ -106,7 +106,14 @@ fn bind_by(
 {
     let mut notes = Items::new(alloc);
     let tree = bind_tree(alloc, class, member, &key, view, marks, &mut notes)?;
-    told_unit(alloc, key, tree, notes.as_slice(), tokens_in(class, member), view)
+    told_unit(
+        alloc,
+        key,
+        tree,
+        notes.as_slice(),
+        tokens_in(class, member),
+        view,
+    )
 }
 
 /// The header of a class, or a member of it, bound under a view, as the unit of a key. For all units of
