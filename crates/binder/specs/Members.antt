@@ -1,6 +1,7 @@
 -- A member of a class or interface, bound: by cases of the member.
-use Rattle.std.specs.Prelude.{ℕ, suc, ◌+◌, Bool, true, false, not, if◌then◌else◌, List, [], ◌∷◌, ◌++◌, length, map, codes, Option, Some, None}
+use Rattle.std.specs.Prelude.{ℕ, suc, ◌+◌, Bool, true, false, not, if◌then◌else◌, List, [], ◌∷◌, ◌++◌, length, map, codes, Option, None}
 use Rattle.std.specs.List.{list_any}
+use Rattle.std.specs.Option.{option_copied}
 use Rattle.std.specs.Str.{bytes_eq}
 use Rattle.desk_base.specs.declared.span.Span.{Span}
 use Rattle.java_tree.specs.declared.member.Ctor.{Ctor}
@@ -23,7 +24,6 @@ use Rattle.promise_marks.specs.declared.mark.Mark.{Mark}
 use Rattle.result_records.specs.declared.code.FindingCode.TheVariants as code
 use Rattle.views.specs.Looks.{standing_at}
 use Rattle.name_rules.specs.declared.note.Note.{Note}
-use Rattle.name_rules.specs.declared.scope.Entry.{Entry}
 use Rattle.name_rules.specs.Notes.{found_if}
 use Rattle.name_rules.specs.Scopes.{Scope}
 use Rattle.expression_binding.specs.Bound.{Ground, grounded}
@@ -36,7 +36,7 @@ use Rattle.unit_rules.specs.Annotations.{member_begins}
 use Rattle.unit_rules.specs.Given.{begun, each_at, member_annotation}
 use Rattle.unit_rules.specs.Shown.{types_shown}
 use Rattle.binder.specs.declared.code.Code.{Code as KeptCode}
-use Rattle.binder.specs.Params.{param_entry, params_notes, params_scope, result_face, result_notes, result_type, value_type, variable_of}
+use Rattle.binder.specs.Params.{params_notes, params_scope, result_face, result_notes, result_type, value_type, variable_of}
 use Rattle.binder.specs.Trees.{PlainBody, PlainPart, PlainTree}
 use Rattle.binder.specs.Trees as t
 
@@ -204,7 +204,7 @@ code_as c = record {
   is_static = c.is_static;
   is_synchronized = c.is_synchronized;
   is_constructor = c.is_constructor;
-  result = c.result.now;
+  result = option_copied c.result;
   params = c.params.now;
   block = c.block.now;
 }

@@ -11,7 +11,6 @@ use Rattle.promise_marks.specs.declared.mark.Mark.{Mark}
 use Rattle.promise_marks.specs.Given.{Given, by_header, by_member}
 use Rattle.promise_marks.specs.Marks.{AreMarks}
 use Rattle.views.specs.Face.{Seen, face}
-use Rattle.name_rules.specs.declared.note.Note.{Note}
 use Rattle.bound_unit.specs.Made.{made}
 use Rattle.bound_unit.specs.UnitFacts.{UnitFacts}
 use Rattle.unit_rules.specs.Consulted.{consulted}

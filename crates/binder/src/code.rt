@@ -27,7 +27,7 @@ pub(crate) struct Code<'m> {
     pub(crate) is_static: bool,
     pub(crate) is_synchronized: bool,
     pub(crate) is_constructor: bool,
-    pub(crate) result: &'m Option<Ty>,
+    pub(crate) result: Option<&'m Ty>,
     pub(crate) params: &'m [Param],
     pub(crate) block: &'m Block,
 }
@@ -48,7 +48,7 @@ pub(crate) fn method_code(method: &Method) -> Code<'_>
         is_static: is_static(method.mods.as_slice()),
         is_synchronized: is_synchronized(method.mods.as_slice()),
         is_constructor: false,
-        result: &method.result,
+        result: method.result.as_ref(),
         params: method.params.as_slice(),
         block: &method.body,
     }
@@ -63,7 +63,7 @@ pub(crate) fn constructor_code(ctor: &Ctor) -> Code<'_>
         is_static: false,
         is_synchronized: false,
         is_constructor: true,
-        result: &None,
+        result: None,
         params: ctor.params.as_slice(),
         block: &ctor.body,
     }

@@ -5,9 +5,11 @@
 #![tactic(auto)]
 
 mod code;
+mod laws;
 mod member;
 mod params;
 mod part;
 mod unit;
 
+pub use laws::one_bound_unit;
 pub use unit::{bind_keyed, bind_unit};

@@ -46,7 +46,13 @@ fn key_count(member: &MemberTree) -> Option<usize>
 fn first_key(alloc: Global, class: &Name, member: &MemberTree) -> Result<Text, OutOfMemory>
     ensures { IfOk result (λ key. key ≡ key_with class.now member.now 1) }
 {
-    member_key(alloc, class.as_slice(), key_name(member), key_count(member), 1)
+    member_key(
+        alloc,
+        class.as_slice(),
+        key_name(member),
+        key_count(member),
+        1,
+    )
 }
 
 fn name_place(member: &MemberTree) -> Span

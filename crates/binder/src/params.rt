@@ -1,6 +1,9 @@
 ghost use Rattle.std.specs.Prelude.{◌≡◌, ◌+◌, ◌++◌, length, map, IfOk, OnOk};
+ghost use Rattle.std.specs.Option.{option_copied};
 ghost use Rattle.class_faces.specs.Faces.{is_final as has_final};
 ghost use Rattle.tree_places.specs.Numbers.{number_of};
+ghost use Rattle.views.specs.Face.{face};
+ghost use Rattle.unit_rules.specs.Shown.{types_shown};
 ghost use Rattle.binder.specs.Params as spec;
 
 use bound_tree::{ValueType, Variable};
@@ -8,10 +11,11 @@ use class_faces::{FaceTy, face_ty};
 use desk_base::{Items, OutOfMemory};
 use expression_binding::{Ground, Places, type_of};
 use java_tree::{Mod, ModWord, Param, Ty};
-use name_rules::{Entry, Note, Scope, TypeTable, Variable as Local, put_finding_if};
+use name_rules::{Entry, Note, Scope, Variable as Local, put_finding_if};
 use result_records::FindingCode;
 use statement_binding::put_declared;
 use std::alloc::Global;
+use unit_rules::ViewTypes;
 
 /// The type of a value of a declared type.
 pub(crate) fn value_type(ty: &Ty) -> Result<ValueType, OutOfMemory>
@@ -22,8 +26,8 @@ pub(crate) fn value_type(ty: &Ty) -> Result<ValueType, OutOfMemory>
 }
 
 /// The type of a result.
-pub(crate) fn result_type(ty: &Option<Ty>) -> Result<Option<ValueType>, OutOfMemory>
-    ensures { IfOk result (λ made. made ≡ spec.result_type ty.now) }
+pub(crate) fn result_type(ty: Option<&Ty>) -> Result<Option<ValueType>, OutOfMemory>
+    ensures { IfOk result (λ made. made ≡ spec.result_type (option_copied ty.entry)) }
 {
     match ty {
         Some(ty) => Ok(Some(value_type(ty)?)),
@@ -32,8 +36,8 @@ pub(crate) fn result_type(ty: &Option<Ty>) -> Result<Option<ValueType>, OutOfMem
 }
 
 /// The same as it is declared.
-pub(crate) fn result_face(ty: &Option<Ty>) -> Result<Option<FaceTy>, OutOfMemory>
-    ensures { IfOk result (λ face. face ≡ spec.result_face ty.now) }
+pub(crate) fn result_face(ty: Option<&Ty>) -> Result<Option<FaceTy>, OutOfMemory>
+    ensures { IfOk result (λ face. face ≡ spec.result_face (option_copied ty.entry)) }
 {
     match ty {
         Some(ty) => Ok(Some(face_ty(ty)?)),
@@ -42,12 +46,12 @@ pub(crate) fn result_face(ty: &Option<Ty>) -> Result<Option<FaceTy>, OutOfMemory
 }
 
 /// Puts what is found and consulted of the type of a result.
-pub(crate) fn put_result<T: TypeTable>(
-    site: &Ground<'_, T>,
-    ty: &Option<Ty>,
+pub(crate) fn put_result(
+    site: &Ground<'_, ViewTypes<'_>>,
+    ty: Option<&Ty>,
     notes: &mut Items<Note>,
 ) -> Result<(), OutOfMemory>
-    ensures { OnOk result (notes.new ≡ notes.old ++ spec.result_notes (T.types site.now.types.now) (number_of site.now.places.now) ty.now) }
+    ensures { OnOk result (notes.new ≡ notes.old ++ spec.result_notes (types_shown (face site.now.types.now)) (number_of site.now.places.now) (option_copied ty.entry)) }
 {
     match ty {
         Some(ty) => put_declared(site, ty, notes),
@@ -101,13 +105,13 @@ fn entry(number: u32, param: &Param) -> Result<Entry, OutOfMemory>
     })
 }
 
-fn put_param<T: TypeTable>(
-    site: &Ground<'_, T>,
+fn put_param(
+    site: &Ground<'_, ViewTypes<'_>>,
     scope: &Scope,
     param: &Param,
     notes: &mut Items<Note>,
 ) -> Result<(), OutOfMemory>
-    ensures { OnOk result (notes.new ≡ notes.old ++ spec.param_notes (T.types site.now.types.now) (number_of site.now.places.now) scope.now param.now) }
+    ensures { OnOk result (notes.new ≡ notes.old ++ spec.param_notes (types_shown (face site.now.types.now)) (number_of site.now.places.now) scope.now param.now) }
 {
     put_declared(site, &param.ty, notes)?;
     let repeated = scope.has(&param.name.text);
@@ -115,11 +119,20 @@ fn put_param<T: TypeTable>(
     put_finding_if(notes, repeated, FindingCode::RepeatedLocal, at)
 }
 
+fn number_behind(number: u32) -> Result<u32, OutOfMemory>
+    ensures { IfOk result (λ next. next ≡ number + 1) }
+{
+    match number.checked_add(1) {
+        Some(next) => Ok(next),
+        None => Err(OutOfMemory),
+    }
+}
+
 /// Puts parameters into the scope, the first as the local of a number, and what is found and consulted
 /// of them. It answers the number of the next local. More locals than can be numbered are told as want
 /// of memory.
-pub(crate) fn put_params<T: TypeTable>(
-    site: &Ground<'_, T>,
+pub(crate) fn put_params(
+    site: &Ground<'_, ViewTypes<'_>>,
     first: u32,
     params: &[Param],
     scope: &mut Scope,
@@ -127,13 +140,13 @@ pub(crate) fn put_params<T: TypeTable>(
 ) -> Result<u32, OutOfMemory>
     ensures next { IfOk result (λ next. next ≡ first + length params.now) }
     ensures scope { OnOk result (scope.new ≡ spec.params_scope first scope.old params.now) }
-    ensures notes { OnOk result (notes.new ≡ notes.old ++ spec.params_notes (T.types site.now.types.now) (number_of site.now.places.now) first scope.old params.now) }
+    ensures notes { OnOk result (notes.new ≡ notes.old ++ spec.params_notes (types_shown (face site.now.types.now)) (number_of site.now.places.now) first scope.old params.now) }
 {
     let mut number = first;
     for param in params {
         put_param(site, &*scope, param, notes)?;
         scope.put(entry(number, param)?)?;
-        number = number.checked_add(1).ok_or(OutOfMemory)?;
+        number = number_behind(number)?;
     }
     Ok(number)
 }

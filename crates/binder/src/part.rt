@@ -38,7 +38,7 @@ fn put_sig(
 ) -> Result<(), OutOfMemory>
     ensures { OnOk result (notes.new ≡ notes.old ++ (spec.sig_made (face site.now.types.now) (number_of site.now.places.now) sig.now).notes) }
 {
-    put_result(site, &sig.result, notes)?;
+    put_result(site, sig.result.as_ref(), notes)?;
     let mut scope = Scope::new(site.alloc);
     put_params(site, 1, sig.params.as_slice(), &mut scope, notes)?;
     Ok(())
@@ -54,7 +54,7 @@ fn bind_sig(
 {
     put_sig(site, sig, notes)?;
     let params = variables(site.alloc, site.places, sig.params.as_slice())?;
-    Ok(Part::Sig(params, result_type(&sig.result)?))
+    Ok(Part::Sig(params, result_type(sig.result.as_ref())?))
 }
 
 fn code_part(
@@ -85,6 +85,50 @@ fn main_part(
     Ok(Part::Body(bind_main(alloc, view, places, class, main, notes)?))
 }
 
+fn field_part(
+    alloc: Global,
+    view: &View<'_>,
+    places: &Places<'_>,
+    class: &Name,
+    field: &Field,
+    notes: &mut Items<Note>,
+) -> Result<Part, OutOfMemory>
+    ensures part { IfOk result (λ part. part_as part ≡ (spec.field_made (face view.now) (number_of places.now) field.now).part) }
+    ensures notes { OnOk result (notes.new ≡ notes.old ++ (spec.field_made (face view.now) (number_of places.now) field.now).notes) }
+{
+    let types = ViewTypes::new(view);
+    let site = Ground {
+        types: &types,
+        class,
+        is_static: false,
+        places,
+        alloc,
+    };
+    bind_field(&site, field, notes)
+}
+
+fn sig_part(
+    alloc: Global,
+    view: &View<'_>,
+    places: &Places<'_>,
+    class: &Name,
+    sig: &Sig,
+    notes: &mut Items<Note>,
+) -> Result<Part, OutOfMemory>
+    ensures part { IfOk result (λ part. part_as part ≡ (spec.sig_made (face view.now) (number_of places.now) sig.now).part) }
+    ensures notes { OnOk result (notes.new ≡ notes.old ++ (spec.sig_made (face view.now) (number_of places.now) sig.now).notes) }
+{
+    let types = ViewTypes::new(view);
+    let site = Ground {
+        types: &types,
+        class,
+        is_static: false,
+        places,
+        alloc,
+    };
+    bind_sig(&site, sig, notes)
+}
+
 /// The parts of a member of a class, bound. What is found and consulted is put behind the notes.
 pub(crate) fn bind_part(
     alloc: Global,
@@ -97,20 +141,12 @@ pub(crate) fn bind_part(
     ensures part { IfOk result (λ part. part_as part ≡ (spec.part_made (face view.now) (number_of places.now) class.now member.now).part) }
     ensures notes { OnOk result (notes.new ≡ notes.old ++ (spec.part_made (face view.now) (number_of places.now) class.now member.now).notes) }
 {
-    let types = ViewTypes::new(view);
-    let site = Ground {
-        types: &types,
-        class,
-        is_static: false,
-        places,
-        alloc,
-    };
     match member {
-        MemberTree::Field(field) => bind_field(&site, field, notes),
+        MemberTree::Field(field) => field_part(alloc, view, places, class, field, notes),
         MemberTree::Method(method) => {
             code_part(alloc, view, places, class, &method_code(method), notes)
         }
-        MemberTree::Sig(sig) => bind_sig(&site, sig, notes),
+        MemberTree::Sig(sig) => sig_part(alloc, view, places, class, sig, notes),
         MemberTree::Ctor(ctor) => {
             code_part(alloc, view, places, class, &constructor_code(ctor), notes)
         }

@@ -1,4 +1,4 @@
-ghost use Rattle.std.specs.Prelude.{◌≡◌, ◌++◌, IfOk, OnOk};
+ghost use Rattle.std.specs.Prelude.{◌≡◌, ◌<◌, ◌++◌, length, IfOk, OnOk, Some};
 ghost use Rattle.std.specs.Option.{option_copied};
 ghost use Rattle.promise_marks.specs.Marks.{AreMarks};
 ghost use Rattle.views.specs.Face.{face};
@@ -106,7 +106,14 @@ fn bind_by(
 {
     let mut notes = Items::new(alloc);
     let tree = bind_tree(alloc, class, member, &key, view, marks, &mut notes)?;
-    told_unit(alloc, key, tree, notes.as_slice(), tokens_in(class, member), view)
+    told_unit(
+        alloc,
+        key,
+        tree,
+        notes.as_slice(),
+        tokens_in(class, member),
+        view,
+    )
 }
 
 /// The header of a class, or a member of it, bound under a view, as the unit of a key. For all units of
@@ -126,16 +133,22 @@ pub fn bind_keyed(
     bind_by(alloc, class, member, key, view, marks.as_slice())
 }
 
+/// The key of the member of a number.
+fn member_key(alloc: Global, class: &ClassTree, number: u32) -> Result<Text, OutOfMemory>
+    requires { number < length class.now.members }
+    ensures { IfOk result (λ key. key ≡ spec.key_at class.now (Some number)) }
+{
+    let keys = member_keys(alloc, class)?;
+    Ok(keys.as_slice()[number as usize].clone()?)
+}
+
 /// The key of the header, or of the member of a number.
 fn key_at(alloc: Global, class: &ClassTree, member: Option<u32>) -> Result<Text, OutOfMemory>
     requires { spec.IsUnit class.now member }
     ensures { IfOk result (λ key. key ≡ spec.key_at class.now member) }
 {
     match member {
-        Some(number) => {
-            let keys = member_keys(alloc, class)?;
-            Ok(keys.as_slice()[number as usize].clone()?)
-        }
+        Some(number) => member_key(alloc, class, number),
         None => text_of(alloc, class.name.text.as_slice()),
     }
 }

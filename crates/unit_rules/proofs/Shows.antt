@@ -5,7 +5,6 @@ use Rattle.std.specs.List.{list_any, starts_with}
 use Rattle.std.specs.Option.{option_map}
 use Rattle.std.specs.Str.{bytes_eq}
 use Rattle.java_tree.specs.declared.file.TypeKind.{TypeKind}
-use Rattle.class_faces.specs.declared.face.FieldFace.{FieldFace}
 use Rattle.class_faces.specs.declared.face.MemberFace.{MemberFace}
 use Rattle.promise_scrub.specs.declared.surface.Surface.{Surface}
 use Rattle.std.proofs.lemmas.Slice.Eq.{bytes_eq-Decides}

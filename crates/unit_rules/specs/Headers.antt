@@ -1,5 +1,5 @@
 -- The header of a class or interface, bound.
-use Rattle.std.specs.Prelude.{ℕ, suc, List, [], ◌∷◌, ◌++◌, map}
+use Rattle.std.specs.Prelude.{ℕ, suc, List, [], ◌++◌, map}
 use Rattle.std.specs.List.{flat_map}
 use Rattle.desk_base.specs.declared.span.Span.{Span}
 use Rattle.java_tree.specs.declared.file.ClassTree.{ClassTree}
@@ -10,7 +10,7 @@ use Rattle.bound_tree.specs.declared.unit.Part.TheVariants as part
 use Rattle.promise_marks.specs.declared.mark.Mark.{Mark}
 use Rattle.views.specs.Looks.{standing_at}
 use Rattle.name_rules.specs.declared.note.Note.{Note}
-use Rattle.bound_unit.specs.Names.{Name, Faces}
+use Rattle.bound_unit.specs.Names.{Faces}
 use Rattle.unit_rules.specs.Annotations.{header_begins}
 use Rattle.unit_rules.specs.Given.{Written, begun, each_at, header_annotation}
 use Rattle.unit_rules.specs.Implements.{implements_after}

@@ -1,11 +1,10 @@
 -- Whether what a class names as implemented is an interface that it implements.
-use Rattle.std.specs.Prelude.{ℕ, suc, ◌==◌, Bool, true, false, ◌&&◌, ◌||◌, not, List, [], ◌∷◌, ◌++◌, length, Option, Some, None, if◌then◌else◌}
+use Rattle.std.specs.Prelude.{ℕ, suc, ◌==◌, Bool, false, ◌&&◌, ◌||◌, not, List, [], ◌∷◌, ◌++◌, length, Option, Some, None, if◌then◌else◌}
 use Rattle.std.specs.List.{after_first, before_first, list_all}
 use Rattle.std.specs.Str.{bytes_eq}
 use Rattle.desk_base.specs.declared.span.Span.{Span}
 use Rattle.java_tree.specs.declared.token.Lexeme.{Lexeme}
 use Rattle.class_faces.specs.declared.face.MemberFace.{MemberFace}
-use Rattle.result_records.specs.declared.code.FindingCode.{FindingCode}
 use Rattle.result_records.specs.declared.code.FindingCode.TheVariants as code
 use Rattle.views.specs.Looks.{member_in, member_key, members_in}
 use Rattle.name_rules.specs.declared.note.Note.{Note}
@@ -51,9 +50,13 @@ abbrev pub bad_unless : Bool → ℕ → List Note
 bad_unless fits at = if fits then [] else note.Finding code.BadImplements at ∷ []
 
 -- a name of no type is that alone
-abbrev pub implemented_notes : Faces → Name → (is_new : Bool) → Name → ℕ → List Note
-implemented_notes faces class is_new name at =
+abbrev pub implemented_faults : Faces → Name → (is_new : Bool) → Name → ℕ → List Note
+implemented_faults faces class is_new name at =
     if is_known_name (types_shown faces) name then bad_unless (implemented_once faces class is_new name) at else note.Finding code.UnknownType at ∷ []
+
+-- it is consulted in any case
+abbrev pub implemented_notes : Faces → Name → (is_new : Bool) → Name → ℕ → List Note
+implemented_notes faces class is_new name at = note.Names name ∷ implemented_faults faces class is_new name at
 
 -- Those of names that come behind these, in written order; a name that is among them is repeated.
 abbrev pub implements_after : Faces → (Span → ℕ) → Name → (before : List Name) → List Lexeme → List Note

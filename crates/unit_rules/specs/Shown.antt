@@ -7,7 +7,7 @@ use Rattle.views.specs.declared.kind.FaceKind.TheVariants as kind
 use Rattle.views.specs.Face.{Face}
 use Rattle.views.specs.Looks.{kind_in}
 use Rattle.name_rules.specs.Types as rules
-use Rattle.bound_unit.specs.Names.{Name, Faces}
+use Rattle.bound_unit.specs.Names.{Faces}
 
 -- Object, String and Runnable are types without being declared
 abbrev pub declared_kind : FaceKind → Option TypeKind

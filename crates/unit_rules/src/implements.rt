@@ -12,7 +12,7 @@ use class_faces::MemberFace;
 use desk_base::{Items, Name, OutOfMemory, Text};
 use expression_binding::Places;
 use java_tree::Lexeme;
-use name_rules::{Note, is_interface, is_known_name, put_finding};
+use name_rules::{Note, is_interface, is_known_name, put_finding, put_name};
 use result_records::FindingCode;
 use std::alloc::Global;
 use std::collections::BTreeSet;
@@ -121,6 +121,23 @@ fn put_known(
     put_finding(notes, FindingCode::BadImplements, at)
 }
 
+fn put_faults(
+    alloc: Global,
+    view: &View<'_>,
+    class: &Name,
+    is_new: bool,
+    name: &Name,
+    at: u32,
+    notes: &mut Items<Note>,
+) -> Result<(), OutOfMemory>
+    ensures { OnOk result (notes.new ≡ notes.old ++ spec.implemented_faults (face view.now) class.now is_new name.now at) }
+{
+    if is_known_name(&ViewTypes::new(view), name) {
+        return put_known(alloc, view, class, is_new, name, at, notes);
+    }
+    put_finding(notes, FindingCode::UnknownType, at)
+}
+
 fn put_implemented(
     alloc: Global,
     view: &View<'_>,
@@ -132,10 +149,8 @@ fn put_implemented(
 ) -> Result<(), OutOfMemory>
     ensures { OnOk result (notes.new ≡ notes.old ++ spec.implemented_notes (face view.now) class.now is_new name.now at) }
 {
-    if is_known_name(&ViewTypes::new(view), name) {
-        return put_known(alloc, view, class, is_new, name, at, notes);
-    }
-    put_finding(notes, FindingCode::UnknownType, at)
+    put_name(notes, name)?;
+    put_faults(alloc, view, class, is_new, name, at, notes)
 }
 
 /// Meets a name, and answers whether it is new.

@@ -1,0 +1,5 @@
+pub mod Keys
+pub mod Parameters
+pub mod Told
+pub mod Back
+pub mod Single
