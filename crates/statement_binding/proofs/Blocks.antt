@@ -54,8 +54,8 @@ pub record Extends (first s : Scope) : Type 0 where
 same : (s : Scope) → Extends s s
 same s = record { more = []; is = sym (append-nil s) }
 
-then : (a b c : Scope) → Extends a b → Extends b c → Extends a c
-then a b c one two = record { more = one.more ++ two.more; is = two.is ∙ ap (λ l. l ++ two.more) one.is ∙ append_assoc a one.more two.more }
+onward : (a b c : Scope) → Extends a b → Extends b c → Extends a c
+onward a b c one two = record { more = one.more ++ two.more; is = two.is ∙ ap (λ l. l ++ two.more) one.is ∙ append_assoc a one.more two.more }
 
 entered : (b : Bool) (s : Scope) (e : Entry) → Extends s (if b then s else s ++ e ∷ [])
 entered true s e = same s
@@ -70,22 +70,22 @@ first_extends ls (p.FirstLocal l) = with_one ls.scope _
 first_extends ls (p.FirstAction does) = same ls.scope
 
 mutual
+  unfolding behind behind_all
+
   stmt_extends : (ls : Locals) (s : PlainStmt) → Extends ls.scope (behind ls s).scope
-  unfolding behind
   stmt_extends ls (p.Block opening items closing) = same ls.scope
   stmt_extends ls (p.Local l at) = with_one ls.scope _
   stmt_extends ls (p.Empty at) = same ls.scope
   stmt_extends ls (p.Action does at) = same ls.scope
-  stmt_extends ls (p.If at test does other) = then ls.scope (behind ls does).scope (behind_all (behind ls does) other).scope (stmt_extends ls does) (all_extend (behind ls does) other)
+  stmt_extends ls (p.If at test does other) = onward ls.scope (behind ls does).scope (behind_all (behind ls does) other).scope (stmt_extends ls does) (all_extend (behind ls does) other)
   stmt_extends ls (p.While at test does) = stmt_extends ls does
   stmt_extends ls (p.For at first test last does) = same ls.scope
   stmt_extends ls (p.Sync at held body) = stmt_extends ls body
   stmt_extends ls (p.Return at v end) = same ls.scope
 
   all_extend : (ls : Locals) (ss : PlainStmts) → Extends ls.scope (behind_all ls ss).scope
-  unfolding behind
   all_extend ls p.no_stmts = same ls.scope
-  all_extend ls (p.stmt s others) = then ls.scope (behind ls s).scope (behind_all (behind ls s) others).scope (stmt_extends ls s) (all_extend (behind ls s) others)
+  all_extend ls (p.stmt s others) = onward ls.scope (behind ls s).scope (behind_all (behind ls s) others).scope (stmt_extends ls s) (all_extend (behind ls s) others)
 
 taken : (a b : Scope) → take (length a) (a ++ b) ≡ a
 taken [] b = refl
@@ -101,6 +101,6 @@ cut_block ls ss = cut_back ls.scope (behind_all ls ss).scope (all_extend ls ss)
 pub cut_for : (ls : Locals) (f : PlainFirst) (s : PlainStmt) → take (length ls.scope) (behind (behind_first ls f) s).scope ≡ ls.scope
 cut_for ls f s =
     cut_back ls.scope (behind (behind_first ls f) s).scope
-    (then ls.scope (behind_first ls f).scope (behind (behind_first ls f) s).scope (first_extends ls f) (stmt_extends (behind_first ls f) s))
+    (onward ls.scope (behind_first ls f).scope (behind (behind_first ls f) s).scope (first_extends ls f) (stmt_extends (behind_first ls f) s))
 
 pub ruleset blocks = (block_bound, block_behind, cut_block)

@@ -2,3 +2,5 @@ pub mod Appends
 pub mod Shapes
 pub mod Blocks
 pub mod Walk
+pub mod Running
+pub mod Cases
