@@ -1,0 +1,106 @@
+//! The units of a project, bound.
+
+use anyhow::{Result, bail};
+use binder::bind_keyed;
+use bound_unit::BoundUnit;
+use class_faces::{member_keys, text_of};
+use desk_base::{Name, Text};
+use java_reader::read_file;
+use java_tree::{ClassTree, MemberTree};
+use promise_scrub::surface_of;
+use std::alloc::Global;
+use std::collections::BTreeMap;
+use views::{Surfaces, View, surface_regions_stand, view_of};
+
+/// What the types of a project show, and its units by their keys.
+#[derive(Drop)]
+pub(crate) struct Project {
+    pub(crate) surfaces: Surfaces,
+    pub(crate) units: BTreeMap<Text, BoundUnit>,
+}
+
+/// Puts the surfaces of classes to the others.
+pub(crate) fn add_surfaces(
+    alloc: Global,
+    surfaces: &mut Surfaces,
+    classes: &[ClassTree],
+) -> Result<()> {
+    surface_regions_stand();
+    for class in classes {
+        let surface = surface_of(alloc, class)?;
+        surfaces.add(surface)?;
+    }
+    Ok(())
+}
+
+/// The view of the class of the name.
+pub(crate) fn class_view<'a>(surfaces: &'a Surfaces, class: &Name) -> Result<View<'a>> {
+    if !surfaces.has(class) {
+        bail!("no such class");
+    }
+    Ok(view_of(surfaces, class))
+}
+
+fn bind_one(
+    alloc: Global,
+    view: &View<'_>,
+    class: &ClassTree,
+    member: Option<&MemberTree>,
+    key: &Text,
+    units: &mut BTreeMap<Text, BoundUnit>,
+) -> Result<()> {
+    let unit = bind_keyed(alloc, class, member, key.clone()?, view)?;
+    units.insert(key.clone()?, unit)?;
+    Ok(())
+}
+
+fn bind_class(
+    alloc: Global,
+    view: &View<'_>,
+    class: &ClassTree,
+    units: &mut BTreeMap<Text, BoundUnit>,
+) -> Result<()> {
+    let key = text_of(alloc, class.name.text.as_slice())?;
+    bind_one(alloc, view, class, None, &key, units)?;
+    let keys = member_keys(alloc, class)?;
+    for (member, key) in class.members.as_slice().iter().zip(keys.as_slice()) {
+        bind_one(alloc, view, class, Some(member), key, units)?;
+    }
+    Ok(())
+}
+
+/// Binds the units of classes, whose surfaces are there.
+pub(crate) fn bind_classes(
+    alloc: Global,
+    surfaces: &Surfaces,
+    classes: &[ClassTree],
+    units: &mut BTreeMap<Text, BoundUnit>,
+) -> Result<()> {
+    for class in classes {
+        let view = class_view(surfaces, &class.name.text)?;
+        bind_class(alloc, &view, class, units)?;
+    }
+    Ok(())
+}
+
+/// The project of one Java file.
+pub(crate) fn project_of(alloc: Global, text: &str) -> Result<Project> {
+    let file = read_file(alloc, text.as_bytes())?;
+    let mut surfaces = Surfaces::new(alloc)?;
+    let mut units = BTreeMap::new(alloc);
+    add_surfaces(alloc, &mut surfaces, file.types.as_slice())?;
+    bind_classes(alloc, &surfaces, file.types.as_slice(), &mut units)?;
+    Ok(Project { surfaces, units })
+}
+
+impl Project {
+    /// Whether no unit has a bind finding.
+    pub(crate) fn binds(&self) -> bool {
+        for unit in self.units.values() {
+            if !unit.bind_findings().is_empty() {
+                return false;
+            }
+        }
+        true
+    }
+}
