@@ -16,7 +16,7 @@ struct Piece<'a> {
     instrs: &'a [NamedInstr],
 }
 
-fn put_text(out: &mut String, text: &[u8]) -> Result<()> {
+pub(crate) fn put_text(out: &mut String, text: &[u8]) -> Result<()> {
     out.push('"')?;
     for byte in text {
         let byte = *byte;
@@ -31,7 +31,7 @@ fn put_text(out: &mut String, text: &[u8]) -> Result<()> {
 }
 
 /// A value that stands in the code.
-pub(crate) fn put_constant(out: &mut String, value: &Constant) -> Result<()> {
+fn put_constant(out: &mut String, value: &Constant) -> Result<()> {
     match value {
         Constant::Int(number) => write!(out, "{number}")?,
         Constant::Boolean(is) => write!(out, "{is}")?,

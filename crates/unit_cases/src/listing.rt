@@ -117,13 +117,16 @@ pub(crate) fn put_unit_code(alloc: Global, out: &mut String, unit: &BoundUnit) -
     put_code(alloc, out, unit.code())
 }
 
-/// The listing of the units of a project, or of the one of the key.
+/// The listing of the units of a project, or of the one of the key, where all of them bind.
 pub(crate) fn put_code_of(
     alloc: Global,
     out: &mut String,
     project: &Project,
     key: &str,
 ) -> Result<()> {
+    if !project.binds() {
+        return Ok(());
+    }
     for unit in project.units.values() {
         if key.is_empty() || unit.key().as_str() == key {
             put_key_line(out, unit)?;
