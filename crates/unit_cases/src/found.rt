@@ -3,13 +3,12 @@
 use crate::listing::put_consults;
 use crate::print::put_finding;
 use crate::units::Project;
-use anyhow::{Context, Result};
+use anyhow::Result;
 use std::alloc::Global;
-use desk_base::Text;
 
 /// The bind findings of all units, a line for each.
 pub(crate) fn put_bind_findings(alloc: Global, out: &mut String, project: &Project) -> Result<()> {
-    for unit in project.units.values() {
+    for unit in project.units.as_slice() {
         for finding in unit.bind_findings() {
             put_finding(alloc, out, finding)?;
             out.push('\n')?;
@@ -19,13 +18,6 @@ pub(crate) fn put_bind_findings(alloc: Global, out: &mut String, project: &Proje
 }
 
 /// The names that the unit of the key consults.
-pub(crate) fn put_consulted(
-    alloc: Global,
-    out: &mut String,
-    project: &Project,
-    key: &str,
-) -> Result<()> {
-    let key = Text::from_text(alloc, key)?;
-    let unit = project.units.get(&key).context("no such unit")?;
-    put_consults(out, unit)
+pub(crate) fn put_consulted(out: &mut String, project: &Project, key: &str) -> Result<()> {
+    put_consults(out, project.unit(key)?)
 }

@@ -127,7 +127,7 @@ pub(crate) fn put_code_of(
     if !project.binds() {
         return Ok(());
     }
-    for unit in project.units.values() {
+    for unit in project.units.as_slice() {
         if key.is_empty() || unit.key().as_str() == key {
             put_key_line(out, unit)?;
             put_places(out, unit)?;

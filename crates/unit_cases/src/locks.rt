@@ -65,7 +65,7 @@ pub(crate) fn lock_findings(
 
 /// The findings on locks in all units, a line for each.
 pub(crate) fn put_lock_findings(alloc: Global, out: &mut String, project: &Project) -> Result<()> {
-    for unit in project.units.values() {
+    for unit in project.units.as_slice() {
         let found = lock_findings(alloc, &project.surfaces, unit)?;
         for finding in found.as_slice() {
             put_finding(alloc, out, finding)?;

@@ -1,8 +1,7 @@
 //! What a class sees of the types of a project. A case is a Java file, a line `asked`, and the look-ups, one
 //! a line: a word, the type, and what is looked for there.
 
-use crate::print::{put_bytes, put_promise};
-use crate::table::first_word;
+use crate::print::{first_word, put_bytes, put_promise};
 use crate::units::{class_view, project_of};
 use anyhow::{Context, Result, bail};
 use class_faces::{FaceTy, FieldFace, MemberFace};

@@ -10,7 +10,6 @@ use bound_tree::{
 };
 use bound_tree::{BoundTree, Part, no_ways};
 use bumpalo::Bump;
-use desk_base::{Items, Text};
 use std::alloc::Global;
 
 /// What is still to be printed: a word, or ways, the last of them first.
@@ -184,8 +183,7 @@ pub(crate) fn put_flows(
     words: &str,
 ) -> Result<()> {
     let (key, lenders) = words.split_once(" lending to ").unwrap_or((words, ""));
-    let key = Text::from_text(alloc, key)?;
-    let unit = project.units.get(&key).context("no such unit")?;
+    let unit = project.unit(key)?;
     let body = body_of(unit.tree()).context("no body")?;
     let mut flow = no_ways(alloc);
     put_stmt(&body.block, alloc, &mut flow)?;

@@ -41,3 +41,8 @@ pub(crate) fn put_finding(alloc: Global, out: &mut String, finding: &Finding) ->
     write!(out, "{} at {place}: {subject}", key.as_str())?;
     Ok(())
 }
+
+/// A word, and those behind it.
+pub(crate) fn first_word(words: &str) -> (&str, &str) {
+    words.split_once(' ').unwrap_or((words, ""))
+}

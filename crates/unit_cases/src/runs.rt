@@ -1,8 +1,7 @@
 //! Programs of projects, and what runs of them come to.
 
 use crate::code::put_text;
-use crate::print::put_bytes;
-use crate::table::first_word;
+use crate::print::{first_word, put_bytes};
 use crate::units::Project;
 use anyhow::{Context, Result};
 use core_model::{
@@ -16,7 +15,7 @@ use std::alloc::Global;
 /// The program of a project's units.
 pub(crate) fn made_program(alloc: Global, project: &Project) -> Result<Program> {
     let mut maker = program_of(alloc, &project.surfaces)?;
-    for unit in project.units.values() {
+    for unit in project.units.as_slice() {
         maker.add(unit)?;
     }
     Ok(maker.finish()?)

@@ -8,7 +8,7 @@ use std::alloc::Global;
 // All that is printed of the units of a class.
 fn shown(alloc: Global, project: &Project, class: &str) -> Result<String> {
     let mut out = String::new(alloc);
-    for unit in project.units.values() {
+    for unit in project.units.as_slice() {
         if unit.tree().class.as_slice() == class.as_bytes() {
             put_key_line(&mut out, unit)?;
             put_bind_lines(&mut out, unit)?;

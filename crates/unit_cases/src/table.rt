@@ -8,17 +8,13 @@ use crate::found::{put_bind_findings, put_consulted};
 use crate::locks::put_lock_findings;
 use crate::looks::put_look;
 use crate::places::put_flows;
+use crate::print::first_word;
 use crate::runs::{put_program, put_run};
 use crate::same::put_same;
 use crate::units::{Project, project_of};
 use crate::listing::put_code_of;
 use anyhow::{Result, bail};
 use std::alloc::Global;
-
-/// A word, and those behind it.
-pub(crate) fn first_word(words: &str) -> (&str, &str) {
-    words.split_once(' ').unwrap_or((words, ""))
-}
 
 // What is asked of a project.
 fn put_project(
@@ -30,7 +26,7 @@ fn put_project(
 ) -> Result<()> {
     match subject {
         "binding" => put_bind_findings(alloc, out, project),
-        "consulted" => put_consulted(alloc, out, project, words),
+        "consulted" => put_consulted(out, project, words),
         "locks" => put_lock_findings(alloc, out, project),
         "flows" => put_flows(alloc, out, project, words),
         "code" => put_code_of(alloc, out, project, words),
