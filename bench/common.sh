@@ -32,6 +32,17 @@ least() {
     echo "$best"
 }
 
+# The names of a crate of the repository and of all of its crates that it stands on.
+below() {
+    awk -F': *' -v names=" $1 " '
+        /^[a-z]/ { uses[$1] = $2; order[++count] = $1 }
+        END {
+            for (at = count; at > 0; at--)
+                if (index(names, " " order[at] " ")) names = names uses[order[at]] " "
+            for (at = 1; at <= count; at++) if (index(names, " " order[at] " ")) print order[at]
+        }' "$top/crates.txt"
+}
+
 # Makes a crate for a program over libraries of the repository: its name, then the crates that it uses,
 # then `--` and those of the repository that are needed. Sets `crate` to its folder.
 program_over() {
