@@ -197,11 +197,7 @@ fn push_inner<'a>(pieces: &mut Vec<Piece<'a>>, depth: u32, instr: &'a NamedInstr
     Ok(())
 }
 
-fn put_piece<'a>(
-    out: &mut String,
-    pieces: &mut Vec<Piece<'a>>,
-    piece: Piece<'a>,
-) -> Result<()> {
+fn put_piece<'a>(out: &mut String, pieces: &mut Vec<Piece<'a>>, piece: Piece<'a>) -> Result<()> {
     if !piece.line.is_empty() {
         put_indent(out, piece.depth.saturating_sub(1))?;
         writeln!(out, "{}", piece.line)?;

@@ -63,7 +63,11 @@ fn is_main(unit: &BoundUnit, body: &Body) -> bool {
 fn body_locals(alloc: Global, unit: &BoundUnit, body: &Body) -> Result<usize> {
     let first = one_if(!body.is_static).saturating_add(one_if(is_main(unit, body)));
     let declared = declared_locals(alloc, &body.block)?;
-    Ok(first.saturating_add(body.params.len()).saturating_add(declared))
+    Ok(
+        first
+            .saturating_add(body.params.len())
+            .saturating_add(declared),
+    )
 }
 
 /// How many locals a unit has: `this` where there is one, the parameters, and those declared in it.

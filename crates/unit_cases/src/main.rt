@@ -10,7 +10,6 @@ mod locks;
 mod looks;
 mod places;
 mod print;
-mod runs;
 mod same;
 mod table;
 mod units;

@@ -6,9 +6,9 @@
 use crate::units::Project;
 use anyhow::{Context, Result};
 use bound_tree::{
-    Body, Goal, Seen, Stmt, Way, What, assigned_table, is_clean, local_of, put_stmt, seen_places,
+    Body, BoundTree, Goal, Part, Seen, Stmt, Way, What, assigned_table, is_clean, local_of,
+    no_ways, put_stmt, seen_places,
 };
-use bound_tree::{BoundTree, Part, no_ways};
 use bumpalo::Bump;
 use std::alloc::Global;
 
@@ -40,11 +40,7 @@ fn put_way<'a>(out: &mut String, pieces: &mut Vec<Piece<'a>>, way: &'a Way) -> R
     Ok(())
 }
 
-fn put_piece<'a>(
-    out: &mut String,
-    pieces: &mut Vec<Piece<'a>>,
-    piece: Piece<'a>,
-) -> Result<()> {
+fn put_piece<'a>(out: &mut String, pieces: &mut Vec<Piece<'a>>, piece: Piece<'a>) -> Result<()> {
     match piece {
         Piece::Word(word) => {
             out.push_str(word)?;
@@ -190,5 +186,12 @@ pub(crate) fn put_flows(
     out.push_str("flow")?;
     put_flow(alloc, out, flow.as_slice())?;
     out.push('\n')?;
-    put_local_flows(alloc, out, unit.tree(), &body.block, flow.as_slice(), lenders)
+    put_local_flows(
+        alloc,
+        out,
+        unit.tree(),
+        &body.block,
+        flow.as_slice(),
+        lenders,
+    )
 }

@@ -5,14 +5,13 @@
 //! reader alone.
 
 use crate::found::{put_bind_findings, put_consulted};
+use crate::listing::put_code_of;
 use crate::locks::put_lock_findings;
 use crate::looks::put_look;
 use crate::places::put_flows;
 use crate::print::first_word;
-use crate::runs::{put_program, put_run};
 use crate::same::put_same;
 use crate::units::{Project, project_of};
-use crate::listing::put_code_of;
 use anyhow::{Result, bail};
 use std::alloc::Global;
 
@@ -30,8 +29,6 @@ fn put_project(
         "locks" => put_lock_findings(alloc, out, project),
         "flows" => put_flows(alloc, out, project, words),
         "code" => put_code_of(alloc, out, project, words),
-        "program" => put_program(alloc, out, project),
-        "run" => put_run(alloc, out, project, words),
         _ => bail!("no cases of {subject}"),
     }
 }
