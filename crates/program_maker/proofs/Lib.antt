@@ -1,0 +1,5 @@
+mod Falling
+mod Placing
+mod Seeing
+mod Fielding
+mod Numbering

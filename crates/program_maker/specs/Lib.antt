@@ -5,3 +5,4 @@ pub mod Numbered
 pub mod Locals
 pub mod Program
 pub mod Kept
+pub mod InstrNumbers

@@ -26,6 +26,6 @@ pub record HasNumbers (numbers : BTreeMap (Bor Name) ℕ) (number : Name → Opt
   pub has : (q : Name) → number_at numbers q ≡ number q
 
 -- what is kept of names that were seen: these, each with the place at which it stands first
-pub record AreSeen (kept : SeenNames) (names : List Name) : Type 0 where
-  pub names : lent kept.names ≡ names
-  pub numbers : HasNumbers kept.numbers (place_of names)
+pub record AreSeen (kept : SeenNames) (list : List Name) : Type 0 where
+  pub names : lent kept.names ≡ list
+  pub numbers : HasNumbers kept.numbers (place_of list)

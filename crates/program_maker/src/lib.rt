@@ -3,4 +3,6 @@
 //! nothing of Java's text, of how a unit is bound, or of promises.
 #![tactic(auto)]
 
+mod naming;
 mod numbering;
+mod numbers;

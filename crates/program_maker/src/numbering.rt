@@ -1,15 +1,14 @@
 //! Numbers of names. The names are lent by what they stand in.
 
-ghost use Rattle.std.specs.Prelude.{◌≡◌, IfOk, OnOk};
-ghost use Rattle.program_maker.specs.Seen.{with_new};
-ghost use Rattle.program_maker.specs.Numbered.{PutsFirst, number_at};
+ghost use Rattle.std.specs.Prelude.{◌≡◌, List, IfOk, OnOk};
+ghost use Rattle.program_maker.specs.Seen.{Name, with_new};
+ghost use Rattle.program_maker.specs.Numbered.{AreSeen, PutsFirst, number_at};
 
 use desk_base::{Items, OutOfMemory};
 use std::alloc::Global;
 use std::collections::BTreeMap;
-use std::marker::Model;
 
-/// A number of 32 bits. What has no room in one is taken as want of memory.
+/// The number in 32 bits. What has no room in them is taken as want of memory.
 pub(crate) fn short(number: usize) -> Result<u32, OutOfMemory>
     ensures { IfOk result (λ short. short ≡ number) }
 {
@@ -40,36 +39,18 @@ pub(crate) fn number_of(numbers: &BTreeMap<&[u8], u32>, name: &[u8]) -> Option<u
     numbers.get(name).copied()
 }
 
-/// Names in the order in which they were first seen, each with its place. Contracts see the list of
-/// them.
+/// Names in the order in which they were first seen, with the place of each.
 #[derive(Drop)]
 pub(crate) struct SeenNames<'a> {
-    names: Items<&'a [u8]>,
-    numbers: BTreeMap<&'a [u8], u32>,
-}
-
-impl<'a> Model for SeenNames<'a> {
-    ghost use Rattle.std.specs.Prelude.{ℕ, List, map};
-    ghost use Rattle.std.specs.Borrow.{Bor};
-    ghost use Rattle.std.specs.Coded.{codes};
-    ghost use Rattle.program_maker.specs.Numbered.{IsNumbered, lent};
-
-    ghost Value = { List (List ℕ) };
-
-    ghost coded = { Prim.hlevel codes };
-
-    ghost view = { λ s. lent s.names };
-
-    ghost invariant = { λ s. IsNumbered s.numbers (lent s.names) };
+    pub(crate) names: Items<&'a [u8]>,
+    pub(crate) numbers: BTreeMap<&'a [u8], u32>,
 }
 
 impl<'a> SeenNames<'a> {
-    ghost use Rattle.std.specs.Prelude.{[], Some, None};
-    ghost use Rattle.program_maker.specs.Seen.{place_of};
-    ghost use Rattle.program_maker.specs.Numbered.{lent};
+    ghost use Rattle.std.specs.Prelude.{[]};
 
     pub(crate) fn new(alloc: Global) -> SeenNames<'a>
-        ensures { result ≡ [] }
+        ensures { AreSeen result [] }
     {
         SeenNames {
             names: Items::new(alloc),
@@ -79,7 +60,7 @@ impl<'a> SeenNames<'a> {
 
     /// Puts a name that isn't there yet behind the others.
     pub(crate) fn see(&mut self, name: &'a [u8]) -> Result<(), OutOfMemory>
-        ensures { OnOk result (self.new ≡ with_new self.old name.now) }
+        ensures { OnOk result ((names : List Name) → AreSeen self.old names → AreSeen self.new (with_new names name.now)) }
     {
         if self.numbers.contains_key(name) {
             return Ok(());
@@ -92,15 +73,8 @@ impl<'a> SeenNames<'a> {
 
     /// The place of a name.
     pub(crate) fn place(&self, name: &[u8]) -> Option<u32>
-        ensures { result ≡ place_of self.now name.now }
+        ensures { result ≡ number_at self.now.numbers name.now }
     {
         number_of(&self.numbers, name)
-    }
-
-    /// The names, in order.
-    pub(crate) fn names(&self) -> &[&'a [u8]]
-        ensures { lent result.now ≡ self.now }
-    {
-        self.names.as_slice()
     }
 }
