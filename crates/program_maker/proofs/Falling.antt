@@ -1,5 +1,5 @@
 -- The code inside an instruction is smaller than any code that the instruction stands in.
-use Rattle.std.proofs.Common.{◌≡◌, ℕ, ◌+◌, ◌≤◌, ◌<◌, List, [], ◌∷◌, length, get_or, arith, zero, suc}
+use Rattle.std.proofs.Common.{◌≡◌, ℕ, ◌+◌, ◌≤◌, ◌<◌, List, [], ◌∷◌, length, get_or, arith, zero, suc, subst, sym}
 use Rattle.lowering.specs.Code.{Code, Done, size_of}
 use Rattle.lowering.specs.CodeOf.{before, code_onto}
 use Rattle.lowering.specs.declared.code.NamedInstr.{NamedInstr}
@@ -27,3 +27,9 @@ pub instr-within : (k : Code) (xs : List NamedInstr) (at : ℕ) (d : NamedInstr)
 instr-within k [] at d low = absurd (omega arith)
 instr-within k (x ∷ xs) zero d low = omega (arith, size-before x k, onto-grows (before x k) xs)
 instr-within k (x ∷ xs) (suc at) d low = instr-within (before x k) xs at d (omega arith)
+
+pub item-within : (xs : List NamedInstr) (at : ℕ) (x : NamedInstr) (code : Code) → at < length xs → x ≡ get_or xs at x → code_onto Done xs ≡ code
+    → instr_size x ≤ size_of code
+item-within xs at x code low is all =
+    subst (λ (k : Code). instr_size x ≤ size_of k) all
+    (subst (λ (y : NamedInstr). instr_size y ≤ size_of (code_onto Done xs)) (sym is) (instr-within Done xs at x low))

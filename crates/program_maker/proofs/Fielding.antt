@@ -164,3 +164,25 @@ pub fields_more : (list : List (Bor Surface)) (at : ℕ) (b : Bor Surface) (ms n
 fields_more list at b ms new m low is h n grown =
     subst (λ (l : List (BTreeMap (Bor Name) ℕ)). FieldsNumbered l (surfaces_lent (take (at + 1) list))) (sym grown)
     (subst (FieldsNumbered (ms ++ m ∷ [])) (sym (lent_more list at b low is)) (fields_grown ms (surfaces_lent (take at list)) m b.now h n))
+
+-- ---- one field more of a kind
+
+pub kind_gains : (s : Bool) (fields : List FieldFace) (at : ℕ) (f : FieldFace) (n m : ℕ) → at < length fields → f ≡ get_or fields at f → f.is_static ≡ s
+    → n ≡ length (faces_of_kind s (take at fields)) → m ≡ n + 1 → m ≡ length (faces_of_kind s (take (at + 1) fields))
+kind_gains s fields at f n m low is kind counted more =
+    let one : one_if (same_bool s f.is_static) ≡ 1 = ap one_if (ap (same_bool s) kind ∙ same_self s) in
+    omega (arith, kind_counted s fields at f low is)
+
+same_not : (s : Bool) → same_bool s (not s) ≡ false
+same_not true = refl
+same_not false = refl
+
+pub kind_stays : (s : Bool) (fields : List FieldFace) (at : ℕ) (f : FieldFace) (n m : ℕ) → at < length fields → f ≡ get_or fields at f → f.is_static ≡ not s
+    → n ≡ length (faces_of_kind s (take at fields)) → m ≡ n → m ≡ length (faces_of_kind s (take (at + 1) fields))
+kind_stays s fields at f n m low is kind counted same =
+    let none : one_if (same_bool s f.is_static) ≡ 0 = ap one_if (ap (same_bool s) kind ∙ same_not s) in
+    omega (arith, kind_counted s fields at f low is)
+
+pub kind_number : (s : Bool) (fields : List FieldFace) (f : FieldFace) (n : ℕ) → f.is_static ≡ s → n ≡ length (faces_of_kind s fields)
+    → n ≡ length (faces_of_kind f.is_static fields)
+kind_number s fields f n kind counted = counted ∙ ap (λ (b : Bool). length (faces_of_kind b fields)) (sym kind)

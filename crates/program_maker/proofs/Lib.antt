@@ -2,4 +2,4 @@ mod Falling
 mod Placing
 mod Seeing
 mod Fielding
-mod Numbering
+mod Renaming

@@ -124,3 +124,11 @@ texts_more before xs at x some low is =
 
       rest : drop (at - 1) xs ≡ x ∷ drop at xs
       rest = drop-cons xs (at - 1) x below ∙ ap (λ (y : NamedInstr). y ∷ drop (suc (at - 1)) xs) (sym is) ∙ ap (λ (n : ℕ). x ∷ drop n xs) (sym (add-one (at - 1)) ∙ back)
+
+-- all instructions are seen
+pub texts_all : (before : List Name) (xs : List NamedInstr) (at : ℕ) (code : Code) → at ≡ 0 → code_onto Done xs ≡ code
+    → seen_after before (list_texts (drop at xs)) ≡ seen_after before (code_texts code)
+texts_all before xs at code none all =
+    ap (λ (n : ℕ). seen_after before (list_texts (drop n xs))) none
+    ∙ ap (seen_after before) (sym (texts-listed xs))
+    ∙ ap (λ (k : Code). seen_after before (code_texts k)) all

@@ -19,6 +19,10 @@ surfaces_lent list = map (λ (b : Bor Surface). b.now) list
 abbrev pub units_lent : List (Bor UnitFacts) → List UnitFacts
 units_lent list = map (λ (b : Bor UnitFacts). b.now) list
 
+abbrev pub unit_if_any : Option (Bor UnitFacts) → Option UnitFacts
+unit_if_any None = None
+unit_if_any (Some b) = Some b.now
+
 abbrev pub number_in : Option (BTreeMap (Bor Name) ℕ) → Name → Option ℕ
 number_in None name = None
 number_in (Some numbers) name = number_at numbers name

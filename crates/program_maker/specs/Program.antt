@@ -127,7 +127,10 @@ program_by r surfaces units = record {
   members = member_names surfaces;
 }
 
+abbrev pub whole_program : List Surface → List UnitFacts → Program
+whole_program surfaces units = program_by (numbers_of surfaces units) surfaces units
+
 -- ProgramOf: the program of these types and units; the empty one where any of the units has a bind finding
 abbrev pub program_of : List Surface → List UnitFacts → Program
 program_of surfaces units =
-    if list_any has_findings units then empty_program else program_by (numbers_of surfaces units) surfaces units
+    if list_any has_findings units then empty_program else whole_program surfaces units
