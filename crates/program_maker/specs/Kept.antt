@@ -19,10 +19,6 @@ surfaces_lent list = map (λ (b : Bor Surface). b.now) list
 abbrev pub units_lent : List (Bor UnitFacts) → List UnitFacts
 units_lent list = map (λ (b : Bor UnitFacts). b.now) list
 
-abbrev pub unit_if_any : Option (Bor UnitFacts) → Option UnitFacts
-unit_if_any None = None
-unit_if_any (Some b) = Some b.now
-
 abbrev pub number_in : Option (BTreeMap (Bor Name) ℕ) → Name → Option ℕ
 number_in None name = None
 number_in (Some numbers) name = number_at numbers name
@@ -56,3 +52,4 @@ pub record AreNumbers (n : NameNumbers) (surfaces : List Surface) (units : List 
   pub fields : FieldsNumbered n.fields surfaces
   pub members : AreSeen n.members (member_names surfaces)
   pub texts : AreSeen n.texts (texts_of units)
+  pub units : HasNumbers n.units (unit_place units)

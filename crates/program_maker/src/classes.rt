@@ -1,11 +1,10 @@
 //! Classes and interfaces of a program.
 
-ghost use Rattle.std.specs.Prelude.{◌≡◌, ℕ, map, None, IfOk};
-ghost use Rattle.std.specs.Option.{option_map};
-ghost use Rattle.class_faces.specs.Keys.{member_key as key_of};
+ghost use Rattle.std.specs.Prelude.{◌≡◌, map, IfOk};
+ghost use Rattle.std.specs.Option.{option_copied};
 ghost use Rattle.lowering.specs.Numbers.{or_zero};
-ghost use Rattle.program_maker.specs.Kept.{numbers_as, surfaces_lent, unit_if_any, units_lent};
-ghost use Rattle.program_maker.specs.Numbered.{HasNumbers};
+ghost use Rattle.program_maker.specs.Kept.{numbers_as, surfaces_lent, units_lent};
+ghost use Rattle.program_maker.specs.Numbered.{HasNumbers, number_at};
 ghost use Rattle.program_maker.specs.Program as spec;
 
 use crate::numbering::{number_of, short};
@@ -17,22 +16,18 @@ use core_model::{ClassId, ClassInfo, FieldInfo, Initial, UnitName, Value};
 use desk_base::{Items, Name, OutOfMemory, Text};
 use promise_scrub::Surface;
 use std::alloc::Global;
-use std::collections::BTreeMap;
-
-/// The units of a program, and their places by their keys.
-#[derive(Clone, Copy)]
-pub(crate) struct Keyed<'a> {
-    pub(crate) units: &'a [&'a BoundUnit],
-    pub(crate) places: &'a BTreeMap<&'a [u8], u32>,
-}
 
 /// The first unit of the key.
-fn unit_keyed<'a>(units: Keyed<'a>, key: &Text) -> Option<&'a BoundUnit>
-    requires { HasNumbers units.places.now (spec.unit_place (units_lent units.units.now)) }
-    ensures { unit_if_any result ≡ spec.unit_keyed (units_lent units.units.now) key.now }
+fn unit_keyed<'a>(
+    numbers: &NameNumbers<'_>,
+    units: &[&'a BoundUnit],
+    key: &Text,
+) -> Option<&'a BoundUnit>
+    requires { HasNumbers numbers.now.units (spec.unit_place (units_lent units.now)) }
+    ensures { option_copied result ≡ spec.unit_keyed (units_lent units.now) key.now }
 {
-    let place = number_of(units.places, key.as_str().as_bytes())? as usize;
-    units.units.get(place).copied()
+    let place = number_of(&numbers.units, key.as_str().as_bytes())? as usize;
+    units.get(place).copied()
 }
 
 fn initial_of(numbers: &NameNumbers<'_>, initial: &BoundInitial) -> Initial
@@ -49,7 +44,7 @@ fn initial_of(numbers: &NameNumbers<'_>, initial: &BoundInitial) -> Initial
 
 /// What a field begins with by its unit.
 fn initial_by(numbers: &NameNumbers<'_>, unit: Option<&BoundUnit>) -> Initial
-    ensures { result ≡ spec.initial_of_unit (numbers_as numbers.now) (unit_if_any unit.entry) }
+    ensures { result ≡ spec.initial_of_unit (numbers_as numbers.now) (option_copied unit.entry) }
 {
     let unit = match unit {
         Some(unit) => unit,
@@ -64,15 +59,15 @@ fn initial_by(numbers: &NameNumbers<'_>, unit: Option<&BoundUnit>) -> Initial
 fn field_info(
     alloc: Global,
     numbers: &NameNumbers<'_>,
-    units: Keyed<'_>,
+    units: &[&BoundUnit],
     class: &Name,
     field: &FieldFace,
 ) -> Result<FieldInfo, OutOfMemory>
-    requires { HasNumbers units.places.now (spec.unit_place (units_lent units.units.now)) }
-    ensures { IfOk result (λ info. info ≡ spec.field_info (numbers_as numbers.now) (units_lent units.units.now) class.now field.now) }
+    requires { HasNumbers numbers.now.units (spec.unit_place (units_lent units.now)) }
+    ensures { IfOk result (λ info. info ≡ spec.field_info (numbers_as numbers.now) (units_lent units.now) class.now field.now) }
 {
     let key = member_key(alloc, class.as_slice(), field.name.as_slice(), None, 1)?;
-    let initial = initial_by(numbers, unit_keyed(units, &key));
+    let initial = initial_by(numbers, unit_keyed(numbers, units, &key));
     Ok(FieldInfo {
         name: field.name.clone()?,
         is_static: field.is_static,
@@ -84,11 +79,11 @@ fn field_info(
 fn field_infos(
     alloc: Global,
     numbers: &NameNumbers<'_>,
-    units: Keyed<'_>,
+    units: &[&BoundUnit],
     surface: &Surface,
 ) -> Result<Items<FieldInfo>, OutOfMemory>
-    requires { HasNumbers units.places.now (spec.unit_place (units_lent units.units.now)) }
-    ensures { IfOk result (λ infos. infos ≡ map (spec.field_info (numbers_as numbers.now) (units_lent units.units.now) surface.now.name) surface.now.fields) }
+    requires { HasNumbers numbers.now.units (spec.unit_place (units_lent units.now)) }
+    ensures { IfOk result (λ infos. infos ≡ map (spec.field_info (numbers_as numbers.now) (units_lent units.now) surface.now.name) surface.now.fields) }
 {
     let mut infos = Items::new(alloc);
     for field in surface.fields.as_slice() {
@@ -98,36 +93,35 @@ fn field_infos(
 }
 
 /// The number of the first unit of the key.
-fn unit_number(units: Keyed<'_>, key: &Text) -> u32
-    requires { HasNumbers units.places.now (spec.unit_place (units_lent units.units.now)) }
-    ensures { result ≡ or_zero (spec.unit_place (units_lent units.units.now) key.now) }
+fn unit_number(numbers: &NameNumbers<'_>, key: &Text) -> u32
+    ensures { result ≡ or_zero (number_at numbers.now.units key.now) }
 {
-    number_of(units.places, key.as_str().as_bytes()).unwrap_or(0)
+    number_of(&numbers.units, key.as_str().as_bytes()).unwrap_or(0)
 }
 
 fn member_info(
     numbers: &NameNumbers<'_>,
-    units: Keyed<'_>,
+    units: &[&BoundUnit],
     member: &MemberFace,
 ) -> Result<UnitName, OutOfMemory>
-    requires { HasNumbers units.places.now (spec.unit_place (units_lent units.units.now)) }
-    ensures { IfOk result (λ info. info ≡ spec.member_info (numbers_as numbers.now) (units_lent units.units.now) member.now) }
+    requires { HasNumbers numbers.now.units (spec.unit_place (units_lent units.now)) }
+    ensures { IfOk result (λ info. info ≡ spec.member_info (numbers_as numbers.now) (units_lent units.now) member.now) }
 {
     Ok(UnitName {
         name: numbers.member(name_in(&member.key).as_bytes()),
         params: short(member.params.len())?,
-        unit: unit_number(units, &member.key),
+        unit: unit_number(numbers, &member.key),
     })
 }
 
 fn member_infos(
     alloc: Global,
     numbers: &NameNumbers<'_>,
-    units: Keyed<'_>,
+    units: &[&BoundUnit],
     surface: &Surface,
 ) -> Result<Items<UnitName>, OutOfMemory>
-    requires { HasNumbers units.places.now (spec.unit_place (units_lent units.units.now)) }
-    ensures { IfOk result (λ infos. infos ≡ map (spec.member_info (numbers_as numbers.now) (units_lent units.units.now)) surface.now.members) }
+    requires { HasNumbers numbers.now.units (spec.unit_place (units_lent units.now)) }
+    ensures { IfOk result (λ infos. infos ≡ map (spec.member_info (numbers_as numbers.now) (units_lent units.now)) surface.now.members) }
 {
     let mut infos = Items::new(alloc);
     for member in surface.members.as_slice() {
@@ -139,11 +133,11 @@ fn member_infos(
 fn class_info(
     alloc: Global,
     numbers: &NameNumbers<'_>,
-    units: Keyed<'_>,
+    units: &[&BoundUnit],
     surface: &Surface,
 ) -> Result<ClassInfo, OutOfMemory>
-    requires { HasNumbers units.places.now (spec.unit_place (units_lent units.units.now)) }
-    ensures { IfOk result (λ info. info ≡ spec.class_info (numbers_as numbers.now) (units_lent units.units.now) surface.now) }
+    requires { HasNumbers numbers.now.units (spec.unit_place (units_lent units.now)) }
+    ensures { IfOk result (λ info. info ≡ spec.class_info (numbers_as numbers.now) (units_lent units.now) surface.now) }
 {
     let fields = field_infos(alloc, numbers, units, surface)?;
     let units = member_infos(alloc, numbers, units, surface)?;
@@ -158,11 +152,11 @@ fn class_info(
 pub(crate) fn class_infos(
     alloc: Global,
     numbers: &NameNumbers<'_>,
-    units: Keyed<'_>,
+    units: &[&BoundUnit],
     surfaces: &[&Surface],
 ) -> Result<Items<ClassInfo>, OutOfMemory>
-    requires { HasNumbers units.places.now (spec.unit_place (units_lent units.units.now)) }
-    ensures { IfOk result (λ infos. infos ≡ map (spec.class_info (numbers_as numbers.now) (units_lent units.units.now)) (surfaces_lent surfaces.now)) }
+    requires { HasNumbers numbers.now.units (spec.unit_place (units_lent units.now)) }
+    ensures { IfOk result (λ infos. infos ≡ map (spec.class_info (numbers_as numbers.now) (units_lent units.now)) (surfaces_lent surfaces.now)) }
 {
     let mut infos = Items::new(alloc);
     for surface in surfaces {

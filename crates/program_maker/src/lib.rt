@@ -3,6 +3,11 @@
 //! nothing of Java's text, of how a unit is bound, or of promises.
 #![tactic(auto)]
 
+mod classes;
+mod maker;
 mod naming;
 mod numbering;
 mod numbers;
+mod units;
+
+pub use maker::{ProgramMaker, program_of};

@@ -7,8 +7,8 @@ ghost use Rattle.program_maker.specs.Naming.{standing_names};
 ghost use Rattle.program_maker.specs.Numbered.{lent};
 ghost use Rattle.program_maker.specs.Program as spec;
 
-use crate::classes::{Keyed, class_infos, mains_of};
-use crate::numbers::{NameNumbers, number_units};
+use crate::classes::{class_infos, mains_of};
+use crate::numbers::NameNumbers;
 use crate::units::unit_codes;
 use bound_unit::BoundUnit;
 use core_model::Program;
@@ -42,10 +42,16 @@ impl<'a> Model for ProgramMaker<'a> {
     ghost view = { λ m. record { surfaces = m.surfaces.now; units = units_lent m.units } };
 }
 
+fn has_findings(unit: &BoundUnit) -> bool
+    ensures { result ≡ spec.has_findings unit.now }
+{
+    !unit.bind_findings().is_empty()
+}
+
 fn any_findings(units: &[&BoundUnit]) -> bool
     ensures { result ≡ list_any spec.has_findings (units_lent units.now) }
 {
-    units.iter().any(|unit| !unit.bind_findings().is_empty())
+    units.iter().any(|unit| has_findings(unit))
 }
 
 fn copied_names(alloc: Global, names: &[&[u8]]) -> Result<Items<Name>, OutOfMemory>
@@ -72,21 +78,16 @@ fn empty_program(alloc: Global) -> Result<Program, OutOfMemory>
 }
 
 /// The program of the types and units, none of which has a bind finding.
-fn whole_program(
+fn whole_program<'a>(
     alloc: Global,
-    surfaces: &Surfaces,
-    units: &[&BoundUnit],
+    surfaces: &'a Surfaces,
+    units: &[&'a BoundUnit],
 ) -> Result<Program, OutOfMemory>
     ensures { IfOk result (λ program. program ≡ spec.whole_program surfaces.now (units_lent units.now)) }
 {
     let types = surfaces.in_order()?;
     let numbers = NameNumbers::of(alloc, types.as_slice(), units)?;
-    let places = number_units(alloc, units)?;
-    let keyed = Keyed {
-        units,
-        places: &places,
-    };
-    let classes = class_infos(alloc, &numbers, keyed, types.as_slice())?;
+    let classes = class_infos(alloc, &numbers, units, types.as_slice())?;
     let codes = unit_codes(alloc, &numbers, surfaces, units)?;
     let mains = mains_of(alloc, types.as_slice())?;
     let members = copied_names(alloc, numbers.members.names.as_slice())?;
@@ -128,7 +129,7 @@ impl<'a> ProgramMaker<'a> {
     /// Where any of the units has a bind finding it is the empty program. Its one error is want of
     /// memory.
     pub fn finish(self) -> Result<Program, OutOfMemory>
-        ensures { IfOk result (λ program. program ≡ spec.program_of self.surfaces self.units) }
+        ensures { IfOk result (λ program. program ≡ spec.program_of self.entry.surfaces self.entry.units) }
     {
         let units = self.units.as_slice();
         if any_findings(units) {

@@ -20,13 +20,14 @@ use std::alloc::Global;
 use std::collections::BTreeMap;
 
 /// The numbers of a program's names: those of classes, of each class's fields among those of their
-/// kind, of the names of members, and of texts.
+/// kind, of the names of members, of texts, and of units by their keys.
 #[derive(Drop)]
 pub(crate) struct NameNumbers<'a> {
     pub(crate) classes: BTreeMap<&'a [u8], u32>,
     pub(crate) fields: Items<BTreeMap<&'a [u8], u32>>,
     pub(crate) members: SeenNames<'a>,
     pub(crate) texts: SeenNames<'a>,
+    pub(crate) units: BTreeMap<&'a [u8], u32>,
 }
 
 fn number_classes<'a>(
@@ -199,7 +200,7 @@ fn see_all_texts<'a>(
 }
 
 /// The numbers of units by their keys.
-pub(crate) fn number_units<'a>(
+fn number_units<'a>(
     alloc: Global,
     units: &[&'a BoundUnit],
 ) -> Result<BTreeMap<&'a [u8], u32>, OutOfMemory>
@@ -225,11 +226,13 @@ impl<'a> NameNumbers<'a> {
         let fields = number_all_fields(alloc, surfaces)?;
         let members = see_all_members(alloc, surfaces)?;
         let texts = see_all_texts(alloc, units)?;
+        let units = number_units(alloc, units)?;
         Ok(NameNumbers {
             classes,
             fields,
             members,
             texts,
+            units,
         })
     }
 }
