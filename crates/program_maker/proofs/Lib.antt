@@ -3,3 +3,4 @@ mod Placing
 mod Seeing
 mod Fielding
 mod Renaming
+mod Meeting

@@ -47,9 +47,9 @@ FieldsNumbered (m ∷ ms) [] = ⊥
 FieldsNumbered (m ∷ ms) (s ∷ ss) = HasNumbers m (field_place s.fields) × FieldsNumbered ms ss
 
 -- they are those of these types and units
-pub record AreNumbers (n : NameNumbers) (surfaces : List Surface) (units : List UnitFacts) : Type 0 where
-  pub classes : HasNumbers n.classes (class_place surfaces)
-  pub fields : FieldsNumbered n.fields surfaces
-  pub members : AreSeen n.members (member_names surfaces)
-  pub texts : AreSeen n.texts (texts_of units)
-  pub units : HasNumbers n.units (unit_place units)
+pub record AreNumbers (n : NameNumbers) (types : List Surface) (added : List UnitFacts) : Type 0 where
+  pub classes : HasNumbers n.classes (class_place types)
+  pub fields : FieldsNumbered n.fields types
+  pub members : AreSeen n.members (member_names types)
+  pub texts : AreSeen n.texts (texts_of added)
+  pub units : HasNumbers n.units (unit_place added)
