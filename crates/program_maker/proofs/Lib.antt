@@ -1,0 +1,6 @@
+mod Falling
+mod Placing
+mod Seeing
+mod Fielding
+mod Renaming
+mod Meeting

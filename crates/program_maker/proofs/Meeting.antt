@@ -1,0 +1,120 @@
+-- That the numbers that are kept are those of the program's names, and what is found by them.
+use Rattle.std.proofs.Common.{◌≡◌, ℕ, zero, suc, ◌+◌, List, [], ◌∷◌, length, map, refl, sym, ◌∙◌, ap, Bool, true, false, cond, ◌||◌}
+use Rattle.std.specs.Prelude.{Option, Some, None, is_some, find}
+use Rattle.std.specs.List.{position_from, list_any, slice_get}
+use Rattle.std.specs.Option.{option_and_then, option_copied}
+use Rattle.std.specs.Borrow.{Bor}
+use Rattle.std.specs.BTreeMap.{BTreeMap}
+use mathlib.Core.Path.{fun_ext}
+use Rattle.class_faces.specs.declared.face.MemberFace.{MemberFace}
+use Rattle.promise_scrub.specs.declared.surface.Surface.{Surface}
+use Rattle.views.specs.Face.{Seen, face, face_of, assumptions_of, surface_named, kind_of, declared_or}
+use Rattle.views.specs.Looks.{keyed, member_in}
+use Rattle.views.proofs.Finding.{find_at}
+use Rattle.views.proofs.Showing.{face-some}
+use Rattle.bound_unit.specs.UnitFacts.{UnitFacts}
+use Rattle.lowering.specs.Numbers.{Numbers, or_zero}
+use Rattle.program_maker.specs.declared.numbers.NameNumbers.{NameNumbers}
+use Rattle.program_maker.specs.Seen.{Name, place_of}
+use Rattle.program_maker.specs.Naming.{class_is, class_place, field_place, place_in_class, member_names, texts_of, numbers_of}
+use Rattle.program_maker.specs.Numbered.{number_at, HasNumbers, AreSeen}
+use Rattle.program_maker.specs.Locals.{face_keyed, count_in, param_count}
+use Rattle.program_maker.specs.Program.{key_is, unit_place, unit_keyed}
+use Rattle.program_maker.specs.Kept.{units_lent, number_in, numbers_at, field_at, numbers_as, FieldsNumbered, AreNumbers}
+
+-- ---- lists of what is lent
+
+pub any-lent : {X : Type 0} (f : X → Bool) (xs : List (Bor X)) → list_any (λ (b : Bor X). f b.now) xs ≡ list_any f (map (λ (b : Bor X). b.now) xs)
+any-lent f [] = refl
+any-lent {X} f (x ∷ xs) = ap (λ (b : Bool). f x.now || b) (any-lent f xs)
+
+pub lent_at : {X : Type 0} (xs : List (Bor X)) (at : ℕ) → option_copied (slice_get xs at) ≡ slice_get (map (λ (b : Bor X). b.now) xs) at
+lent_at [] at = refl
+lent_at (x ∷ xs) zero = refl
+lent_at (x ∷ xs) (suc at) = lent_at xs at
+
+-- ---- units
+
+none_step : {X : Type 0} (b : Bool) (t : X → Bool) (i : ℕ) (x : X) (xs : List X) → cond b (Some i) (position_from t (i + 1) xs) ≡ None
+    → (position_from t (i + 1) xs ≡ None → find t xs ≡ None) → cond b (Some x) (find t xs) ≡ None
+none_step true t i x xs e h = absurd (cc)
+none_step false t i x xs e h = h e
+
+none_found : {X : Type 0} (t : X → Bool) (i : ℕ) (xs : List X) → position_from t i xs ≡ None → find t xs ≡ None
+none_found t i [] e = refl
+none_found t i (x ∷ xs) e = none_step (t x) t i x xs e (none_found t (i + 1) xs)
+
+pub unit_absent : (units : List (Bor UnitFacts)) (key : Name) → unit_place (units_lent units) key ≡ None → unit_keyed (units_lent units) key ≡ None
+unit_absent units key e = none_found (key_is key) 0 (units_lent units) e
+
+pub unit_found : (units : List (Bor UnitFacts)) (key : Name) (place : ℕ) → unit_place (units_lent units) key ≡ Some place
+    → option_copied (slice_get units place) ≡ unit_keyed (units_lent units) key
+unit_found units key place e = lent_at units place ∙ find_at (key_is key) place (units_lent units) e
+
+-- ---- parameters
+
+face_found : (o : Option Surface) (surfaces : List Surface) (class key : Name) → surface_named surfaces class ≡ o → is_some o ≡ true
+    → member_in (face (record { surfaces = surfaces; class = class }) class) key ≡ face_keyed surfaces class key
+face_found None surfaces class key e some = absurd (cc)
+face_found (Some s) surfaces class key e some =
+    ap (λ f. member_in f key)
+    (face-some (record { surfaces = surfaces; class = class }) class (record { kind = kind_of s.kind; surface = s }) (ap (λ (o : Option Surface). declared_or o class) e))
+    ∙ sym (ap (λ (o : Option Surface). option_and_then (λ (t : Surface). keyed t.members key) o) e)
+
+pub params_found : (surfaces : List Surface) (class key : Name) (seen : Seen) (o : Option (Bor MemberFace)) (m : Bor MemberFace) (n : ℕ)
+    → is_some (surface_named surfaces class) ≡ true → seen ≡ record { surfaces = surfaces; class = class }
+    → option_copied o ≡ member_in (face seen class) key → o ≡ Some m → n ≡ length m.now.params → n ≡ param_count surfaces class key
+params_found surfaces class key seen o m n some same found is counted =
+    counted
+    ∙ ap count_in
+    (ap option_copied (sym is) ∙ found ∙ ap (λ (v : Seen). member_in (face v class) key) same
+    ∙ face_found (surface_named surfaces class) surfaces class key refl some)
+
+pub params_absent : (surfaces : List Surface) (class key : Name) (seen : Seen) (o : Option (Bor MemberFace))
+    → is_some (surface_named surfaces class) ≡ true → seen ≡ record { surfaces = surfaces; class = class }
+    → option_copied o ≡ member_in (face seen class) key → o ≡ None → 0 ≡ param_count surfaces class key
+params_absent surfaces class key seen o some same found is =
+    ap count_in
+    (ap option_copied (sym is) ∙ found ∙ ap (λ (v : Seen). member_in (face v class) key) same
+    ∙ face_found (surface_named surfaces class) surfaces class key refl some)
+
+-- ---- numbers
+
+fields_at : (ms : List (BTreeMap (Bor Name) ℕ)) (types : List Surface) (at : ℕ) (f : Name) → FieldsNumbered ms types
+    → number_in (slice_get ms at) f ≡ place_in_class (slice_get types at) f
+fields_at [] [] at f h = refl
+fields_at [] (s ∷ ss) at f h = absurd h
+fields_at (m ∷ ms) [] at f h = absurd h
+fields_at (m ∷ ms) (s ∷ ss) zero f h = h.0.has f
+fields_at (m ∷ ms) (s ∷ ss) (suc at) f h = fields_at ms ss at f h.1
+
+fields_of : (ms : List (BTreeMap (Bor Name) ℕ)) (types : List Surface) (c f : Name) (o : Option ℕ) → FieldsNumbered ms types → class_place types c ≡ o
+    → number_in (numbers_at ms o) f ≡ place_in_class (surface_named types c) f
+fields_of ms types c f None h e = ap (λ (s : Option Surface). place_in_class s f) (sym (none_found (class_is c) 0 types e))
+fields_of ms types c f (Some i) h e = fields_at ms types i f h ∙ ap (λ (s : Option Surface). place_in_class s f) (find_at (class_is c) i types e)
+
+fields_are : (n : NameNumbers) (types : List Surface) (added : List UnitFacts) → AreNumbers n types added → (c f : Name)
+    → field_at n c f ≡ place_in_class (surface_named types c) f
+fields_are n types added h c f =
+    ap (λ (o : Option ℕ). number_in (numbers_at n.fields o) f) (h.classes.has c)
+    ∙ fields_of n.fields types c f (class_place types c) h.fields refl
+
+the_numbers : (Name → Option ℕ) → (Name → Name → ℕ) → (Name → ℕ) → (Name → ℕ) → Numbers
+the_numbers classes fields members texts = record { class = classes; field = fields; member = members; text = texts }
+
+same_numbers : (classes others : Name → Option ℕ) (fields more : Name → Name → ℕ) (members names texts words : Name → ℕ)
+    → classes ≡ others → fields ≡ more → members ≡ names → texts ≡ words
+    → the_numbers classes fields members texts ≡ the_numbers others more names words
+same_numbers classes others fields more members names texts words a b c d = cc
+
+-- they are those of the types and units
+pub numbers-are : (n : NameNumbers) (types : List Surface) (added : List UnitFacts) → AreNumbers n types added → numbers_as n ≡ numbers_of types added
+numbers-are n types added h =
+    same_numbers (number_at n.classes) (class_place types)
+    (λ (c f : Name). or_zero (field_at n c f)) (λ (c f : Name). or_zero (place_in_class (surface_named types c) f))
+    (λ (m : Name). or_zero (number_at n.members.numbers m)) (λ (m : Name). or_zero (place_of (member_names types) m))
+    (λ (t : Name). or_zero (number_at n.texts.numbers t)) (λ (t : Name). or_zero (place_of (texts_of added) t))
+    (fun_ext h.classes.has)
+    (fun_ext (λ (c : Name). fun_ext (λ (f : Name). ap or_zero (fields_are n types added h c f))))
+    (fun_ext (λ (m : Name). ap or_zero (h.members.numbers.has m)))
+    (fun_ext (λ (t : Name). ap or_zero (h.texts.numbers.has t)))
