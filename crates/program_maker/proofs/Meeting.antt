@@ -6,6 +6,9 @@ use Rattle.std.specs.Option.{option_and_then, option_copied}
 use Rattle.std.specs.Borrow.{Bor}
 use Rattle.std.specs.BTreeMap.{BTreeMap}
 use mathlib.Core.Path.{fun_ext}
+use Rattle.core_model.specs.declared.program.Program.{Program}
+use Rattle.core_model.specs.declared.program.ClassInfo.{ClassInfo}
+use Rattle.core_model.specs.declared.program.UnitCode.{UnitCode}
 use Rattle.class_faces.specs.declared.face.MemberFace.{MemberFace}
 use Rattle.promise_scrub.specs.declared.surface.Surface.{Surface}
 use Rattle.views.specs.Face.{Seen, face, face_of, assumptions_of, surface_named, kind_of, declared_or}
@@ -17,10 +20,10 @@ use Rattle.lowering.specs.Numbers.{Numbers, or_zero}
 use Rattle.program_maker.specs.declared.numbers.NameNumbers.{NameNumbers}
 use Rattle.program_maker.specs.Seen.{Name, place_of}
 use Rattle.program_maker.specs.Naming.{class_is, class_place, field_place, place_in_class, member_names, texts_of, numbers_of}
-use Rattle.program_maker.specs.Numbered.{number_at, HasNumbers, AreSeen}
+use Rattle.program_maker.specs.Numbered.{lent, number_at, HasNumbers, AreSeen}
 use Rattle.program_maker.specs.Locals.{face_keyed, count_in, param_count}
-use Rattle.program_maker.specs.Program.{key_is, unit_place, unit_keyed}
-use Rattle.program_maker.specs.Kept.{units_lent, number_in, numbers_at, field_at, numbers_as, FieldsNumbered, AreNumbers}
+use Rattle.program_maker.specs.Program.{key_is, unit_place, unit_keyed, class_info, unit_code, mains_from, whole_program}
+use Rattle.program_maker.specs.Kept.{surfaces_lent, units_lent, number_in, numbers_at, field_at, numbers_as, FieldsNumbered, AreNumbers}
 
 -- ---- lists of what is lent
 
@@ -109,6 +112,7 @@ same_numbers classes others fields more members names texts words a b c d = cc
 
 -- they are those of the types and units
 pub numbers-are : (n : NameNumbers) (types : List Surface) (added : List UnitFacts) → AreNumbers n types added → numbers_as n ≡ numbers_of types added
+unfolding the_numbers
 numbers-are n types added h =
     same_numbers (number_at n.classes) (class_place types)
     (λ (c f : Name). or_zero (field_at n c f)) (λ (c f : Name). or_zero (place_in_class (surface_named types c) f))
@@ -118,3 +122,34 @@ numbers-are n types added h =
     (fun_ext (λ (c : Name). fun_ext (λ (f : Name). ap or_zero (fields_are n types added h c f))))
     (fun_ext (λ (m : Name). ap or_zero (h.members.numbers.has m)))
     (fun_ext (λ (t : Name). ap or_zero (h.texts.numbers.has t)))
+
+-- ---- the whole program
+
+the_program : List ClassInfo → List UnitCode → List ℕ → List Name → Program
+the_program classes codes mains members = record { classes = classes; units = codes; mains = mains; members = members }
+
+same_program : (classes infos : List ClassInfo) (codes units : List UnitCode) (mains starts : List ℕ) (members names : List Name)
+    → classes ≡ infos → codes ≡ units → mains ≡ starts → members ≡ names
+    → the_program classes codes mains members ≡ the_program infos units starts names
+same_program classes infos codes units mains starts members names a b c d = cc
+
+pub program-is : (n : NameNumbers) (surfaces : List Surface) (types : List (Bor Surface)) (units : List UnitFacts)
+    (classes : List ClassInfo) (codes : List UnitCode) (mains : List ℕ) (members : List Name)
+    → surfaces_lent types ≡ surfaces → AreNumbers n (surfaces_lent types) units
+    → classes ≡ map (class_info (numbers_as n) units) (surfaces_lent types)
+    → codes ≡ map (unit_code (numbers_as n) surfaces) units
+    → mains ≡ mains_from 0 (surfaces_lent types)
+    → members ≡ lent n.members.names
+    → (record { classes = classes; units = codes; mains = mains; members = members }) ≡ whole_program surfaces units
+unfolding the_program
+program-is n surfaces types units classes codes mains members shown h a b c d =
+    same_program classes (map (class_info (numbers_of surfaces units) units) surfaces)
+    codes (map (unit_code (numbers_of surfaces units) surfaces) units)
+    mains (mains_from 0 surfaces) members (member_names surfaces)
+    (a ∙ ap (λ (r : Numbers). map (class_info r units) (surfaces_lent types)) numbered ∙ ap (map (class_info (numbers_of surfaces units) units)) shown)
+    (b ∙ ap (λ (r : Numbers). map (unit_code r surfaces) units) numbered)
+    (c ∙ ap (mains_from 0) shown)
+    (d ∙ h.members.names ∙ ap member_names shown)
+    where
+      numbered : numbers_as n ≡ numbers_of surfaces units
+      numbered = numbers-are n (surfaces_lent types) units h ∙ ap (λ (list : List Surface). numbers_of list units) shown
