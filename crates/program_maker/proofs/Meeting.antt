@@ -1,10 +1,11 @@
 -- That the numbers that are kept are those of the program's names, and what is found by them.
-use Rattle.std.proofs.Common.{◌≡◌, ℕ, zero, suc, ◌+◌, List, [], ◌∷◌, length, map, refl, sym, ◌∙◌, ap, Bool, true, false, cond, ◌||◌}
+use Rattle.std.proofs.Common.{◌≡◌, ℕ, zero, suc, ◌+◌, ◌<◌, take, drop, get_or, add-one, List, [], ◌∷◌, length, map, refl, sym, ◌∙◌, ap, Bool, true, false, cond, ◌||◌}
 use Rattle.std.specs.Prelude.{Option, Some, None, is_some, find}
 use Rattle.std.specs.List.{position_from, list_any, slice_get}
 use Rattle.std.specs.Option.{option_and_then, option_copied}
 use Rattle.std.specs.Borrow.{Bor}
 use Rattle.std.specs.BTreeMap.{BTreeMap}
+use Rattle.std.proofs.Math.Seq.{drop-cons}
 use mathlib.Core.Path.{fun_ext}
 use Rattle.core_model.specs.declared.program.Program.{Program}
 use Rattle.core_model.specs.declared.program.ClassInfo.{ClassInfo}
@@ -22,14 +23,27 @@ use Rattle.program_maker.specs.Seen.{Name, place_of}
 use Rattle.program_maker.specs.Naming.{class_is, class_place, field_place, place_in_class, member_names, texts_of, numbers_of}
 use Rattle.program_maker.specs.Numbered.{lent, number_at, HasNumbers, AreSeen}
 use Rattle.program_maker.specs.Locals.{face_keyed, count_in, param_count}
-use Rattle.program_maker.specs.Program.{key_is, unit_place, unit_keyed, class_info, unit_code, mains_from, whole_program}
+use Rattle.program_maker.specs.Program.{key_is, unit_place, unit_keyed, has_findings, class_info, unit_code, mains_from, whole_program}
 use Rattle.program_maker.specs.Kept.{surfaces_lent, units_lent, number_in, numbers_at, field_at, numbers_as, FieldsNumbered, AreNumbers}
 
 -- ---- lists of what is lent
 
-pub any-lent : {X : Type 0} (f : X → Bool) (xs : List (Bor X)) → list_any (λ (b : Bor X). f b.now) xs ≡ list_any f (map (λ (b : Bor X). b.now) xs)
-any-lent f [] = refl
-any-lent {X} f (x ∷ xs) = ap (λ (b : Bool). f x.now || b) (any-lent f xs)
+-- whether any unit of what is left has findings: the first of it, or any behind it
+any_step : (units : List (Bor UnitFacts)) (at : ℕ) (unit : Bor UnitFacts) → at < length units → unit ≡ get_or units at unit
+    → list_any has_findings (units_lent (drop at units)) ≡ (has_findings unit.now || list_any has_findings (units_lent (drop (at + 1) units)))
+any_step units at unit low is =
+    ap (λ (list : List (Bor UnitFacts)). list_any has_findings (units_lent list))
+    (drop-cons units at unit low ∙ ap (λ (b : Bor UnitFacts). b ∷ drop (suc at) units) (sym is) ∙ ap (λ (n : ℕ). unit ∷ drop n units) (sym (add-one at)))
+
+pub any_here : (units : List (Bor UnitFacts)) (at : ℕ) (unit : Bor UnitFacts) → at < length units → unit ≡ get_or units at unit → has_findings unit.now ≡ true
+    → true ≡ list_any has_findings (units_lent (drop at units))
+any_here units at unit low is found =
+    sym (any_step units at unit low is ∙ ap (λ (b : Bool). b || list_any has_findings (units_lent (drop (at + 1) units))) found)
+
+pub any_later : (units : List (Bor UnitFacts)) (at : ℕ) (unit : Bor UnitFacts) → at < length units → unit ≡ get_or units at unit → has_findings unit.now ≡ false
+    → list_any has_findings (units_lent (drop at units)) ≡ list_any has_findings (units_lent (drop (at + 1) units))
+any_later units at unit low is none =
+    any_step units at unit low is ∙ ap (λ (b : Bool). b || list_any has_findings (units_lent (drop (at + 1) units))) none
 
 pub lent_at : {X : Type 0} (xs : List (Bor X)) (at : ℕ) → option_copied (slice_get xs at) ≡ slice_get (map (λ (b : Bor X). b.now) xs) at
 lent_at [] at = refl

@@ -51,7 +51,12 @@ fn has_findings(unit: &BoundUnit) -> bool
 fn any_findings(units: &[&BoundUnit]) -> bool
     ensures { result ≡ list_any spec.has_findings (units_lent units.now) }
 {
-    units.iter().any(|unit| has_findings(unit))
+    for unit in units {
+        if has_findings(unit) {
+            return true;
+        }
+    }
+    false
 }
 
 fn copied_names(alloc: Global, names: &[&[u8]]) -> Result<Items<Name>, OutOfMemory>
