@@ -1,7 +1,8 @@
 -- That the numbers that are kept are those of the program's names, and what is found by them.
-use Rattle.std.proofs.Common.{◌≡◌, ℕ, zero, suc, ◌+◌, ◌<◌, take, drop, get_or, add-one, List, [], ◌∷◌, length, map, refl, sym, ◌∙◌, ap, Bool, true, false, cond, ◌||◌}
-use Rattle.std.specs.Prelude.{Option, Some, None, is_some, find}
-use Rattle.std.specs.List.{position_from, list_any, slice_get}
+use Rattle.std.proofs.Common.{◌≡◌, ℕ, zero, suc, ◌+◌, ◌<◌, ◌≤◌, take, drop, get_or, add-one, List, [], ◌∷◌, length, map, refl, sym, ◌∙◌, ap, Bool, true, false, cond, ◌||◌}
+use Rattle.std.specs.Prelude.{Option, Some, None, is_some, find, MatchOption, IfSome}
+use Rattle.std.specs.List.{position_from, list_any, slice_get, HoldsAt}
+use Rattle.std.proofs.lemmas.Option.{slice_get_past, slice_get_read}
 use Rattle.std.specs.Option.{option_and_then, option_copied}
 use Rattle.std.specs.Borrow.{Bor}
 use Rattle.std.specs.BTreeMap.{BTreeMap}
@@ -49,6 +50,14 @@ pub lent_at : {X : Type 0} (xs : List (Bor X)) (at : ℕ) → option_copied (sli
 lent_at [] at = refl
 lent_at (x ∷ xs) zero = refl
 lent_at (x ∷ xs) (suc at) = lent_at xs at
+
+-- what stands at a place, copied
+pub copied_at : {X : Type 0} (xs : List (Bor X)) (at : ℕ) (o : Option (Bor (Bor X)))
+    → MatchOption o (length xs ≤ at) (λ (b : Bor (Bor X)). (at < length xs) × HoldsAt {X = Bor X} (λ (y : Bor X). b.now ≡ y) xs at)
+    → IfSome o (λ (b : Bor (Bor X)). b.now ≡ get_or xs at b.now)
+    → option_copied o ≡ slice_get xs at
+copied_at xs at None past h = sym (slice_get_past xs at past)
+copied_at xs at (Some b) low is = sym (slice_get_read xs (length xs) at b.now refl low.0 is)
 
 -- ---- units
 
