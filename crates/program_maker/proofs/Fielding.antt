@@ -1,5 +1,5 @@
 -- The places of fields among those of their kind, in a list that grows at its end.
-use Rattle.std.proofs.Common.{◌≡◌, ℕ, ◌+◌, ◌<◌, List, [], ◌∷◌, ◌++◌, length, map, take, get_or, refl, sym, ◌∙◌, ap, subst, arith, Bool, true, false, cond, ◌||◌}
+use Rattle.std.proofs.Common.{◌≡◌, ℕ, ◌+◌, ◌<◌, List, [], ◌∷◌, ◌++◌, length, take, get_or, refl, sym, ◌∙◌, ap, subst, arith, Bool, true, false, cond, ◌||◌}
 use Rattle.std.specs.Prelude.{Option, Some, None, is_some, find, filter, not}
 use Rattle.std.specs.List.{position_from, list_any}
 use Rattle.std.specs.Option.{option_or}
@@ -111,7 +111,7 @@ grown-none xs f q false none is = refl
 
 grown-by : (xs : List FieldFace) (f : FieldFace) (q : Name) (o : Option FieldFace) → find (field_is q) xs ≡ o
     → place_of_field (xs ++ f ∷ []) q (option_or o (find (field_is q) (f ∷ [])))
-      ≡ option_or (place_of_field xs q o) (cond (bytes_eq f.name q) (Some (length (faces_of_kind f.is_static xs))) None)
+    ≡ option_or (place_of_field xs q o) (cond (bytes_eq f.name q) (Some (length (faces_of_kind f.is_static xs))) None)
 grown-by xs f q (Some g) e = grown-some xs f g q (cond (bytes_eq f.name q) (Some (length (faces_of_kind f.is_static xs))) None) e
 grown-by xs f q None e = grown-none xs f q (bytes_eq f.name q) (find_none (field_is q) xs e) refl
 

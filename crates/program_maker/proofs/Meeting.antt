@@ -1,5 +1,5 @@
 -- That the numbers that are kept are those of the program's names, and what is found by them.
-use Rattle.std.proofs.Common.{◌≡◌, ℕ, zero, suc, ◌+◌, ◌<◌, ◌≤◌, take, drop, get_or, add-one, List, [], ◌∷◌, length, map, refl, sym, ◌∙◌, ap, Bool, true, false, cond, ◌||◌}
+use Rattle.std.proofs.Common.{◌≡◌, ℕ, zero, suc, ◌+◌, ◌<◌, ◌≤◌, drop, get_or, add-one, List, [], ◌∷◌, length, map, refl, sym, ◌∙◌, ap, Bool, true, false, cond, ◌||◌}
 use Rattle.std.specs.Prelude.{Option, Some, None, is_some, find, MatchOption, IfSome}
 use Rattle.std.specs.List.{position_from, list_any, slice_get, HoldsAt}
 use Rattle.std.proofs.lemmas.Option.{slice_get_past, slice_get_read}
@@ -13,7 +13,7 @@ use Rattle.core_model.specs.declared.program.ClassInfo.{ClassInfo}
 use Rattle.core_model.specs.declared.program.UnitCode.{UnitCode}
 use Rattle.class_faces.specs.declared.face.MemberFace.{MemberFace}
 use Rattle.promise_scrub.specs.declared.surface.Surface.{Surface}
-use Rattle.views.specs.Face.{Seen, face, face_of, assumptions_of, surface_named, kind_of, declared_or}
+use Rattle.views.specs.Face.{Seen, face, surface_named, kind_of, declared_or}
 use Rattle.views.specs.Looks.{keyed, member_in}
 use Rattle.views.proofs.Finding.{find_at}
 use Rattle.views.proofs.Showing.{face-some}
@@ -21,8 +21,8 @@ use Rattle.bound_unit.specs.UnitFacts.{UnitFacts}
 use Rattle.lowering.specs.Numbers.{Numbers, or_zero}
 use Rattle.program_maker.specs.declared.numbers.NameNumbers.{NameNumbers}
 use Rattle.program_maker.specs.Seen.{Name, place_of}
-use Rattle.program_maker.specs.Naming.{class_is, class_place, field_place, place_in_class, member_names, texts_of, numbers_of}
-use Rattle.program_maker.specs.Numbered.{lent, number_at, HasNumbers, AreSeen}
+use Rattle.program_maker.specs.Naming.{class_is, class_place, place_in_class, member_names, texts_of, numbers_of}
+use Rattle.program_maker.specs.Numbered.{lent, number_at}
 use Rattle.program_maker.specs.Locals.{face_keyed, count_in, param_count}
 use Rattle.program_maker.specs.Program.{key_is, unit_place, unit_keyed, has_findings, class_info, unit_code, mains_from, whole_program}
 use Rattle.program_maker.specs.Kept.{surfaces_lent, units_lent, number_in, numbers_at, field_at, numbers_as, FieldsNumbered, AreNumbers}
@@ -173,6 +173,6 @@ program-is n surfaces types units classes codes mains members shown h a b c d =
     (b ∙ ap (λ (r : Numbers). map (unit_code r surfaces) units) numbered)
     (c ∙ ap (mains_from 0) shown)
     (d ∙ h.members.names ∙ ap member_names shown)
-    where
-      numbered : numbers_as n ≡ numbers_of surfaces units
-      numbered = numbers-are n (surfaces_lent types) units h ∙ ap (λ (list : List Surface). numbers_of list units) shown
+  where
+    numbered : numbers_as n ≡ numbers_of surfaces units
+    numbered = numbers-are n (surfaces_lent types) units h ∙ ap (λ (list : List Surface). numbers_of list units) shown

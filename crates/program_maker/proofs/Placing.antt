@@ -1,17 +1,17 @@
 -- The places of names in lists that grow at their ends, and maps that have them.
 use Rattle.std.proofs.Common.{◌≡◌, ℕ, ◌+◌, List, [], ◌∷◌, ◌++◌, length, map, refl, sym, ◌∙◌, ap, arith, Bool, true, false, cond}
-use Rattle.std.specs.Prelude.{Option, Some, None, is_some, is_none}
-use Rattle.std.specs.List.{position_from, list_any}
+use Rattle.std.specs.Prelude.{Option, Some, None, is_some}
+use Rattle.std.specs.List.{position_from}
 use Rattle.std.specs.Option.{option_or}
 use Rattle.std.specs.Ordering.{nat_cmp}
 use Rattle.std.specs.Cmp.Lexicographic.{slice_cmp}
 use Rattle.std.specs.Borrow.{Bor}
-use Rattle.std.specs.BTreeMap.{BTreeMap, Updates, IsEmpty, get_by, is_at}
-use Rattle.std.specs.Map.{lookup, update}
+use Rattle.std.specs.BTreeMap.{BTreeMap, Updates, IsEmpty, is_at}
+use Rattle.std.specs.Map.{lookup}
 use Rattle.std.specs.Str.{bytes_eq}
 use Rattle.std.proofs.lemmas.Map.Text.{btree_map_updates_str}
 use Rattle.std.proofs.lemmas.Slice.Eq.{bytes_eq-Decides}
-use Rattle.std.proofs.Common.{◌≤◌, ◌<◌, take, get_or, subst}
+use Rattle.std.proofs.Common.{◌<◌, take, get_or, subst}
 use Rattle.std.proofs.lemmas.List.{take_more, map-append, length-map, length-take-le}
 use Rattle.promise_scrub.specs.declared.surface.Surface.{Surface}
 use Rattle.bound_unit.specs.UnitFacts.{UnitFacts}
@@ -19,7 +19,7 @@ use Rattle.program_maker.specs.Seen.{Name}
 use Rattle.program_maker.specs.Naming.{class_is, class_place}
 use Rattle.program_maker.specs.Program.{key_is, unit_place}
 use Rattle.program_maker.specs.Kept.{surfaces_lent, units_lent}
-use Rattle.program_maker.specs.Numbered.{lent, number_at, PutsFirst, HasNumbers}
+use Rattle.program_maker.specs.Numbered.{number_at, PutsFirst, HasNumbers}
 
 or_none : (o : Option ℕ) → o ≡ option_or o None
 or_none None = refl
@@ -124,4 +124,3 @@ pub unit_more : (list : List (Bor UnitFacts)) (at : ℕ) (b : Bor UnitFacts) (ol
     → HasNumbers new (unit_place (units_lent (take (at + 1) list)))
 unit_more list at b old new name n low is named number h p =
     place_more key_is list at b old new name n low is (λ q. ap (λ (k : Name). bytes_eq k q) named) number h p
-

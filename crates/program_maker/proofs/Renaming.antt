@@ -1,7 +1,6 @@
 -- Code that grows at its front, numbered.
 use Rattle.std.proofs.Common.{◌≡◌, ℕ, ◌+◌, ◌<◌, List, [], ◌∷◌, ◌++◌, length, take, get_or, refl, sym, ◌∙◌, ap}
 use Rattle.std.proofs.lemmas.List.{take_more}
-use Rattle.core_model.specs.Code as core
 use Rattle.core_model.specs.CodeOf.{before as core_before}
 use Rattle.lowering.specs.declared.code.NamedInstr.{NamedInstr}
 use Rattle.lowering.specs.declared.code.NamedInstr.TheVariants as i

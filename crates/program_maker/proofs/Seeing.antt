@@ -1,7 +1,7 @@
 -- Names that are seen one after another.
 use Rattle.std.proofs.Common.{◌≡◌, ℕ, suc, ◌+◌, ◌-◌, ◌<◌, ◌≤◌, List, [], ◌∷◌, ◌++◌, length, map, take, drop, get_or, refl, sym, ◌∙◌, ap, subst, arith, Bool, true, false, cond, add-one, append_assoc}
-use Rattle.std.specs.Prelude.{Option, Some, None, is_some, flat_map}
-use Rattle.std.specs.List.{position_from, list_any}
+use Rattle.std.specs.Prelude.{Some, is_some, flat_map}
+use Rattle.std.specs.List.{list_any}
 use Rattle.std.specs.Ordering.{nat_cmp}
 use Rattle.std.specs.Cmp.Lexicographic.{slice_cmp}
 use Rattle.std.specs.Borrow.{Bor}
@@ -17,10 +17,10 @@ use Rattle.lowering.specs.declared.code.NamedInstr.TheVariants as i
 use Rattle.lowering.specs.Code.{Code, Done}
 use Rattle.lowering.specs.CodeOf.{before, code_onto}
 use Rattle.bound_unit.specs.UnitFacts.{UnitFacts}
-use Rattle.program_maker.specs.Seen.{Name, is_name, place_of, with_new, seen_after, first_seen}
+use Rattle.program_maker.specs.Seen.{Name, is_name, with_new, seen_after}
 use Rattle.program_maker.specs.declared.numbering.SeenNames.{SeenNames}
 use Rattle.program_maker.specs.Naming.{name_of_member, names_of_members, texts_of}
-use Rattle.program_maker.specs.Numbered.{lent, number_at, HasNumbers, AreSeen}
+use Rattle.program_maker.specs.Numbered.{lent, number_at, AreSeen}
 use Rattle.program_maker.specs.Kept.{surfaces_lent, units_lent}
 use Rattle.program_maker.specs.Texts.{code_texts, instr_texts, list_texts, unit_texts}
 use Rattle.program_maker.proofs.Placing.{puts_new, numbered_more, lent_more}
@@ -75,7 +75,7 @@ members_more before members at m low is =
 -- of one more in a list of what is lent
 lent_seen : {X : Type 0} (before : List Name) (f : X → List Name) (list : List (Bor X)) (at : ℕ) (b : Bor X) → at < length list → b ≡ get_or list at b
     → seen_after before (flat_map f (map (λ (x : Bor X). x.now) (take (at + 1) list)))
-      ≡ seen_after (seen_after before (flat_map f (map (λ (x : Bor X). x.now) (take at list)))) (f b.now)
+    ≡ seen_after (seen_after before (flat_map f (map (λ (x : Bor X). x.now) (take at list)))) (f b.now)
 lent_seen {X} before f list at b low is =
     ap (λ (l : List X). seen_after before (flat_map f l)) (lent_more list at b low is)
     ∙ ap (seen_after before) (flat_map-append f (map (λ (x : Bor X). x.now) (take at list)) (b.now ∷ []))
@@ -84,7 +84,7 @@ lent_seen {X} before f list at b low is =
 
 pub surfaces_seen : (before : List Name) (list : List (Bor Surface)) (at : ℕ) (b : Bor Surface) → at < length list → b ≡ get_or list at b
     → seen_after before (flat_map names_of_members (surfaces_lent (take (at + 1) list)))
-      ≡ seen_after (seen_after before (flat_map names_of_members (surfaces_lent (take at list)))) (names_of_members b.now)
+    ≡ seen_after (seen_after before (flat_map names_of_members (surfaces_lent (take at list)))) (names_of_members b.now)
 surfaces_seen before list at b low is = lent_seen before names_of_members list at b low is
 
 pub units_seen : (list : List (Bor UnitFacts)) (at : ℕ) (b : Bor UnitFacts) → at < length list → b ≡ get_or list at b
@@ -115,15 +115,15 @@ pub texts_more : (before : List Name) (xs : List NamedInstr) (at : ℕ) (x : Nam
     → seen_after before (list_texts (drop (at - 1) xs)) ≡ seen_after (seen_after before (list_texts (drop at xs))) (instr_texts x)
 texts_more before xs at x some low is =
     ap (λ (l : List NamedInstr). seen_after before (list_texts l)) rest ∙ seen-append before (list_texts (drop at xs)) (instr_texts x)
-    where
-      back : (at - 1) + 1 ≡ at
-      back = omega arith
+  where
+    back : (at - 1) + 1 ≡ at
+    back = omega arith
 
-      below : at - 1 < length xs
-      below = omega arith
+    below : at - 1 < length xs
+    below = omega arith
 
-      rest : drop (at - 1) xs ≡ x ∷ drop at xs
-      rest = drop-cons xs (at - 1) x below ∙ ap (λ (y : NamedInstr). y ∷ drop (suc (at - 1)) xs) (sym is) ∙ ap (λ (n : ℕ). x ∷ drop n xs) (sym (add-one (at - 1)) ∙ back)
+    rest : drop (at - 1) xs ≡ x ∷ drop at xs
+    rest = drop-cons xs (at - 1) x below ∙ ap (λ (y : NamedInstr). y ∷ drop (suc (at - 1)) xs) (sym is) ∙ ap (λ (n : ℕ). x ∷ drop n xs) (sym (add-one (at - 1)) ∙ back)
 
 -- all instructions are seen
 pub texts_all : (before : List Name) (xs : List NamedInstr) (at : ℕ) (code : Code) → at ≡ 0 → code_onto Done xs ≡ code

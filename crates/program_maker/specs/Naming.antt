@@ -1,6 +1,6 @@
 -- The numbers of a program's names: classes and interfaces in order of name, fields in written order among those of their kind,
 -- names of members and texts in the order in which they are first seen.
-use Rattle.std.specs.Prelude.{ℕ, ◌==◌, Bool, List, [], ◌∷◌, ◌++◌, Option, Some, None, codes, map, filter, find, flat_map}
+use Rattle.std.specs.Prelude.{ℕ, ◌==◌, Bool, List, [], ◌∷◌, ◌++◌, Option, Some, None, codes, map, filter, flat_map}
 use Rattle.std.specs.List.{after_first, before_first, position_from}
 use Rattle.std.specs.Str.{bytes_eq}
 use Rattle.core_model.specs.Operators.{same_bool}

@@ -1,5 +1,5 @@
 -- The texts of a unit: of a field the one that it begins with, and those that stand in code, in its order.
-use Rattle.std.specs.Prelude.{ℕ, List, [], ◌∷◌, ◌++◌}
+use Rattle.std.specs.Prelude.{List, [], ◌∷◌, ◌++◌}
 use Rattle.bound_tree.specs.declared.unit.Initial.{Initial}
 use Rattle.bound_tree.specs.declared.unit.Initial.TheVariants as initial
 use Rattle.bound_tree.specs.declared.unit.Part.{Part}

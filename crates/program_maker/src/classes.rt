@@ -178,14 +178,15 @@ fn is_main(member: &MemberFace) -> bool
 fn has_main(surface: &Surface) -> bool
     ensures { result ≡ spec.has_main surface.now }
 {
-    surface.members.as_slice().iter().any(|member| is_main(member))
+    surface
+        .members
+        .as_slice()
+        .iter()
+        .any(|member| is_main(member))
 }
 
 /// The numbers of the classes with a main.
-pub(crate) fn mains_of(
-    alloc: Global,
-    surfaces: &[&Surface],
-) -> Result<Items<ClassId>, OutOfMemory>
+pub(crate) fn mains_of(alloc: Global, surfaces: &[&Surface]) -> Result<Items<ClassId>, OutOfMemory>
     ensures { IfOk result (λ mains. mains ≡ spec.mains_from 0 (surfaces_lent surfaces.now)) }
 {
     let mut mains = Items::new(alloc);

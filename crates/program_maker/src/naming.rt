@@ -12,9 +12,7 @@ use crate::numbering::number_of;
 use crate::numbers::NameNumbers;
 use core_model::{Body, Claim, Instr, Known, Note, Plain, Value};
 use desk_base::{Name, OutOfMemory};
-use lowering::{
-    Constant, NamedClaim, NamedCode, NamedInstr, NamedKnown, NamedNote, NamedPlain,
-};
+use lowering::{Constant, NamedClaim, NamedCode, NamedInstr, NamedKnown, NamedNote, NamedPlain};
 use std::alloc::Global;
 
 fn or_zero(number: Option<u32>) -> u32

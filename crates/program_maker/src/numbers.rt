@@ -186,10 +186,7 @@ fn see_unit<'a>(names: &mut SeenNames<'a>, unit: &'a BoundUnit) -> Result<(), Ou
     Ok(())
 }
 
-fn see_all_texts<'a>(
-    alloc: Global,
-    units: &[&'a BoundUnit],
-) -> Result<SeenNames<'a>, OutOfMemory>
+fn see_all_texts<'a>(alloc: Global, units: &[&'a BoundUnit]) -> Result<SeenNames<'a>, OutOfMemory>
     ensures { IfOk result (λ texts. AreSeen texts (texts_of (units_lent units.now))) }
 {
     let mut texts = SeenNames::new(alloc);

@@ -9,7 +9,7 @@ returns-in_err-place c =
     let k : c.as_bytes.result.now ≡ c.args.key.now = search rules in
     ap option_copied c.from_residual.ensures
     ∙ sym (unit_absent c.args.units.now c.args.key.now
-        (sym (c.requires.has c.args.key.now) ∙ ap (number_at c.args.numbers.now.units) (sym k) ∙ sym c.number_of.ensures ∙ c.in_err-place.was))
+    (sym (c.requires.has c.args.key.now) ∙ ap (number_at c.args.numbers.now.units) (sym k) ∙ sym c.number_of.ensures ∙ c.in_err-place.was))
 
 pub returns : goal.returns
 returns c =
@@ -17,4 +17,4 @@ returns c =
     let h = c.get.ensures.lookup in
     ap option_copied (c.copied.ensures ∙ copied_at c.args.units.now c.in_ok-place.field-0 c.get.result h.3 h.1)
     ∙ unit_found c.args.units.now c.args.key.now c.in_ok-place.field-0
-        (sym (c.requires.has c.args.key.now) ∙ ap (number_at c.args.numbers.now.units) (sym k) ∙ sym c.number_of.ensures ∙ c.in_ok-place.was)
+    (sym (c.requires.has c.args.key.now) ∙ ap (number_at c.args.numbers.now.units) (sym k) ∙ sym c.number_of.ensures ∙ c.in_ok-place.was)

@@ -1,4 +1,4 @@
-use Rattle.std.proofs.Common.{◌≡◌, ◌∙◌, List, ap, map, subst, rules}
+use Rattle.std.proofs.Common.{◌∙◌, List, ap, map, subst}
 use Rattle.std.specs.Borrow.{Bor}
 use Rattle.promise_scrub.specs.declared.surface.Surface.{Surface}
 use Rattle.program_maker.specs.Kept.{surfaces_lent, units_lent, numbers_as, AreNumbers}

@@ -1,4 +1,4 @@
-use Rattle.program_maker.proofs.Placing.{puts_new, puts_none}
+use Rattle.program_maker.proofs.Placing.{puts_new}
 use Rattle.program_maker.proofs.numbering.put_first.Goals as goal
 
 pub returns-in_ok-insert : goal.returns-in_ok-insert

@@ -1,4 +1,4 @@
-use Rattle.std.proofs.Common.{ap, ◌∙◌, sym, subst, arith, ◌≡◌, drop, List}
+use Rattle.std.proofs.Common.{ap, ◌∙◌, sym, subst, arith}
 use Rattle.lowering.specs.declared.code.NamedInstr.{NamedInstr}
 use Rattle.program_maker.specs.Seen.{seen_after}
 use Rattle.program_maker.specs.Numbered.{AreSeen}

@@ -1,4 +1,4 @@
-use Rattle.std.proofs.Common.{◌≡◌, ◌+◌, take, length, true, false}
+use Rattle.std.proofs.Common.{◌≡◌, take, length, true, false}
 use Rattle.program_maker.specs.Naming.{field_place, faces_of_kind}
 use Rattle.program_maker.specs.Numbered.{HasNumbers}
 use Rattle.program_maker.proofs.numbers.number_fields.Given as goal

@@ -1,5 +1,4 @@
-use Rattle.std.proofs.Common.{◌∙◌, ap}
-use Rattle.bound_unit.specs.UnitFacts.{UnitFacts}
+use Rattle.std.proofs.Common.{◌∙◌}
 use Rattle.program_maker.proofs.Placing.{unit_more}
 use Rattle.program_maker.proofs.numbers.number_units.Goals as goal
 

@@ -1,5 +1,5 @@
 use Rattle.std.proofs.Common.{subst, sym, ap, ◌∙◌}
-use Rattle.program_maker.specs.Seen.{Name, seen_after, with_new}
+use Rattle.program_maker.specs.Seen.{with_new}
 use Rattle.program_maker.specs.Numbered.{AreSeen}
 use Rattle.program_maker.proofs.Seeing.{members_more}
 use Rattle.program_maker.proofs.numbers.see_members.Goals as goal

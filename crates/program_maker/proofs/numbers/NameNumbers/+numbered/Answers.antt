@@ -1,8 +1,6 @@
-use Rattle.std.proofs.Common.{ap, ◌∙◌, sym, arith, get_or}
-use Rattle.core_model.specs.Code.{Code}
+use Rattle.std.proofs.Common.{ap, ◌∙◌, sym, arith}
 use Rattle.core_model.specs.CodeOf.{before}
 use Rattle.core_model.specs.declared.body.Instr.{Instr}
-use Rattle.lowering.specs.Code.{Done, size_of}
 use Rattle.program_maker.specs.Kept.{numbers_as}
 use Rattle.program_maker.specs.InstrNumbers.{instr_number}
 use Rattle.program_maker.proofs.Falling.{item-within}
