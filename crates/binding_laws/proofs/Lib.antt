@@ -1,0 +1,4 @@
+pub mod Told
+pub mod AskedTypes
+pub mod Agreeing
+pub mod OneExpression
