@@ -30,7 +30,7 @@ use Rattle.expression_binding.specs.Methods.{NamedMethod, method_in, method_name
 use Rattle.expression_binding.specs.Before.{is_misuse, first_of, class_before}
 use Rattle.expression_binding.specs.Bound.{grounded, Bound, Bounds, found_at, finding_if, spoilt_if, fit, any_bad, argument_place, own_field_by, is_out_of_place, meant, Based, word_if_free, type_word, type_before, value_before, before_by, field_use, field_term, field_notes, field_made, field_told, selected, call_use, own_call_term, own_called, called_on, method_term, newly_made, left_place, right_place, joined, with_two}
 use Rattle.expression_binding.specs.Laws.{IsTold, IsAsked, IsAskedType, AgreeOn, AgreeAtType, AgreeAtValue, AgreeAt}
-use Rattle.binding_laws.proofs.Told.{told-back, agree-front, agree-back}
+use Rattle.binding_laws.proofs.Told.{agree-front, agree-back}
 use Rattle.binding_laws.proofs.AskedTypes.{IsAskedName}
 
 module _ (T U : Types) where
@@ -219,49 +219,49 @@ module _ (T U : Types) where
     method_named-one notes agree None h name n = refl
     method_named-one notes agree (Some c) h name n = method_in-one c name n (agree c h)
 
-    pub method-result : (m : NamedMethod) → AgreeOn T U class (method_notes (Some m)) → AgreeAtGiven m.result
-    method-result m h = result-agrees m.result (agree-front T U class (consults_result m.result) (consults_params m.params) h)
+    pub method-result : (n : ℕ) (m : NamedMethod) → AgreeOn T U class (method_notes n (Some m)) → AgreeAtGiven m.result
+    method-result n m h = result-agrees m.result (agree-front T U class (consults_result m.result) (consults_params m.params) h)
 
-    pub method-params : (m : Option NamedMethod) → AgreeOn T U class (method_notes m) → AgreeAtParams (method_params m)
-    method-params None h = tt
-    method-params (Some m) h = params-agree m.params (agree-back T U class (consults_result m.result) (consults_params m.params) h)
+    pub method-params : (n : ℕ) (m : Option NamedMethod) → AgreeOn T U class (method_notes n m) → AgreeAtParams (method_params m)
+    method-params n None h = tt
+    method-params n (Some m) h = params-agree m.params (agree-back T U class (consults_result m.result) (consults_params m.params) h)
 
-    pub maker-params : (c : Name) (m : Option MemberFace) → AgreeOn T U class (made_notes c m) → AgreeAtParams (maker_params m)
-    maker-params c None h = tt
-    maker-params c (Some m) h =
-        params-agree m.params (λ d a. h d (later d a))
-      where
-        later : (d : Name) → IsAsked class (consults_params m.params) d → IsAsked class (made_notes c (Some m)) d
-        later d (inl x) = inl x
-        later d (inr (inl x)) = inr (inl x)
-        later d (inr (inr x)) = inr (inr (inr (told-back (consults_result m.result) (consults_params m.params) d x)))
+    -- what the notes of a `new` tell besides the class
+    made-later : (c : Name) (n : ℕ) (m : Option MemberFace) (d : Name) → IsAsked class (consults_params (maker_params m)) d → IsAsked class (made_notes c n m) d
+    made-later c n m d (inl x) = inl x
+    made-later c n m d (inr (inl x)) = inr (inl x)
+    made-later c n m d (inr (inr x)) = inr (inr (inr x))
 
-    abbrev own_call_by : Bool → PlainLexeme → NamedMethod → Bounds → Use → Bound
-    own_call_by in_static w m args u = record {
+    pub maker-params : (c : Name) (n : ℕ) (m : Option MemberFace) → AgreeOn T U class (made_notes c n m) → AgreeAtParams (maker_params m)
+    maker-params c n m h = params-agree (maker_params m) (λ d a. h d (made-later c n m d a))
+
+    abbrev own_call_by : Bool → PlainLexeme → ℕ → NamedMethod → Bounds → Use → Bound
+    own_call_by in_static w n m args u = record {
       term = own_call_term (grounded T class in_static) (suc w.at) m args.terms (used (suc w.at) (suc w.at) m.result u);
-      notes = method_notes (Some m) ++ (args.notes ++ use_notes (suc w.at) u);
+      notes = method_notes n (Some m) ++ (args.notes ++ use_notes (suc w.at) u);
     }
 
-    pub own_called-one : (in_static : Bool) (w : PlainLexeme) (m : Option NamedMethod) (args : Bounds)
-        → AgreeOn T U class (own_called (grounded T class in_static) w m args).notes → own_called (grounded T class in_static) w m args ≡ own_called (grounded U class in_static) w m args
-    own_called-one in_static w None args h = refl
-    own_called-one in_static w (Some m) args h =
-        ap (own_call_by in_static w m args)
-        (call_use-one args.terms (is_out_of_place in_static m.is_static) m.result (method-result m (agree-front T U class (method_notes (Some m)) _ h)))
+    pub own_called-one : (in_static : Bool) (w : PlainLexeme) (n : ℕ) (m : Option NamedMethod) (args : Bounds)
+        → AgreeOn T U class (own_called (grounded T class in_static) w n m args).notes
+        → own_called (grounded T class in_static) w n m args ≡ own_called (grounded U class in_static) w n m args
+    own_called-one in_static w n None args h = refl
+    own_called-one in_static w n (Some m) args h =
+        ap (own_call_by in_static w n m args)
+        (call_use-one args.terms (is_out_of_place in_static m.is_static) m.result (method-result n m (agree-front T U class (method_notes n (Some m)) _ h)))
 
-    abbrev call_by : Based → PlainLexeme → NamedMethod → Bounds → Use → Bound
-    call_by b w m args u = record {
+    abbrev call_by : Based → PlainLexeme → ℕ → NamedMethod → Bounds → Use → Bound
+    call_by b w n m args u = record {
       term = method_term b.base m.named args.terms (used (suc w.at) (first_of b.base) m.result u);
-      notes = b.notes ++ (method_notes (Some m) ++ (args.notes ++ use_notes (suc w.at) u));
+      notes = b.notes ++ (method_notes n (Some m) ++ (args.notes ++ use_notes (suc w.at) u));
     }
 
-    pub called_on-one : (b : Based) (w : PlainLexeme) (m : Option NamedMethod) (args : Bounds) → AgreeOn T U class (called_on T b w m args).notes
-        → called_on T b w m args ≡ called_on U b w m args
-    called_on-one b w None args h = refl
-    called_on-one b w (Some m) args h =
-        ap (call_by b w m args)
+    pub called_on-one : (b : Based) (w : PlainLexeme) (n : ℕ) (m : Option NamedMethod) (args : Bounds) → AgreeOn T U class (called_on T b w n m args).notes
+        → called_on T b w n m args ≡ called_on U b w n m args
+    called_on-one b w n None args h = refl
+    called_on-one b w n (Some m) args h =
+        ap (call_by b w n m args)
         (call_use-one args.terms (is_misuse b.base m.is_static) m.result
-        (method-result m (agree-front T U class (method_notes (Some m)) _ (agree-back T U class b.notes _ h))))
+        (method-result n m (agree-front T U class (method_notes n (Some m)) _ (agree-back T U class b.notes _ h))))
 
     -- ---- `new`
 

@@ -161,33 +161,33 @@ selected-asked types class b w =
 
 -- ---- calls
 
-method-asked : (class : Name) (m : NamedMethod) (rest : List Note) (at first : ℕ) (u : Use) → IsAskedType class (method_notes (Some m) ++ rest) (used at first m.result u).ty
-method-asked class m rest at first u =
+method-asked : (class : Name) (n : ℕ) (m : NamedMethod) (rest : List Note) (at first : ℕ) (u : Use) → IsAskedType class (method_notes n (Some m) ++ rest) (used at first m.result u).ty
+method-asked class n m rest at first u =
     let ty = (used at first m.result u).ty in
-    type-front class (method_notes (Some m)) rest ty
-    (type-back class (Calls m.named.class m.named.name (length m.params) ∷ []) (consults_result m.result ++ consults_params m.params) ty
+    type-front class (method_notes n (Some m)) rest ty
+    (type-back class (Calls m.named.class m.named.name n ∷ []) (consults_result m.result ++ consults_params m.params) ty
     (type-front class (consults_result m.result) (consults_params m.params) ty (given-asked class at first m.result u)))
 
-own_called-asked : (types : Types) (class : Name) (in_static : Bool) (w : PlainLexeme) (m : Option NamedMethod) (args : Bounds)
-    → IsAskedType class (own_called (grounded types class in_static) w m args).notes (stamp_of (own_called (grounded types class in_static) w m args).term).ty
-own_called-asked types class in_static w None args = tt
-own_called-asked types class in_static w (Some m) args =
+own_called-asked : (types : Types) (class : Name) (in_static : Bool) (w : PlainLexeme) (n : ℕ) (m : Option NamedMethod) (args : Bounds)
+    → IsAskedType class (own_called (grounded types class in_static) w n m args).notes (stamp_of (own_called (grounded types class in_static) w n m args).term).ty
+own_called-asked types class in_static w n None args = tt
+own_called-asked types class in_static w n (Some m) args =
     let g = grounded types class in_static in
-    let told = method-asked class m (args.notes ++ own_call_notes g (suc w.at) (Some m) args.terms) (suc w.at) (suc w.at) (own_use g m args.terms) in
-    either-asked class (own_called g w (Some m) args).notes (m.is_static || in_static) _ _ told told
+    let told = method-asked class n m (args.notes ++ own_call_notes g (suc w.at) (Some m) args.terms) (suc w.at) (suc w.at) (own_use g m args.terms) in
+    either-asked class (own_called g w n (Some m) args).notes (m.is_static || in_static) _ _ told told
 
-made-asked : (types : Types) (class : Name) (b : Before) (w : PlainLexeme) (m : Option NamedMethod) (args : List Term) (rest : List Note)
-    → IsAskedType class (method_notes m ++ rest) (stamp_of (call_made types b (suc w.at) w.text m args)).ty
-made-asked types class (OnType c first) w None args rest = tt
-made-asked types class (OnValue v) w None args rest = tt
-made-asked types class (OnType c first) w (Some m) args rest = method-asked class m rest (suc w.at) first (use_behind types (OnType c first) m args)
-made-asked types class (OnValue v) w (Some m) args rest = method-asked class m rest (suc w.at) (stamp_of v).first (use_behind types (OnValue v) m args)
+made-asked : (types : Types) (class : Name) (b : Before) (w : PlainLexeme) (n : ℕ) (m : Option NamedMethod) (args : List Term) (rest : List Note)
+    → IsAskedType class (method_notes n m ++ rest) (stamp_of (call_made types b (suc w.at) w.text m args)).ty
+made-asked types class (OnType c first) w n None args rest = tt
+made-asked types class (OnValue v) w n None args rest = tt
+made-asked types class (OnType c first) w n (Some m) args rest = method-asked class n m rest (suc w.at) first (use_behind types (OnType c first) m args)
+made-asked types class (OnValue v) w n (Some m) args rest = method-asked class n m rest (suc w.at) (stamp_of v).first (use_behind types (OnValue v) m args)
 
-called_on-asked : (types : Types) (class : Name) (b : Based) (w : PlainLexeme) (m : Option NamedMethod) (args : Bounds)
-    → IsAskedType class (called_on types b w m args).notes (stamp_of (called_on types b w m args).term).ty
-called_on-asked types class b w m args =
-    type-back class b.notes _ (stamp_of (called_on types b w m args).term).ty
-    (made-asked types class b.base w m args.terms (args.notes ++ call_notes types b.base (suc w.at) m args.terms))
+called_on-asked : (types : Types) (class : Name) (b : Based) (w : PlainLexeme) (n : ℕ) (m : Option NamedMethod) (args : Bounds)
+    → IsAskedType class (called_on types b w n m args).notes (stamp_of (called_on types b w n m args).term).ty
+called_on-asked types class b w n m args =
+    type-back class b.notes _ (stamp_of (called_on types b w n m args).term).ty
+    (made-asked types class b.base w n m args.terms (args.notes ++ call_notes types b.base (suc w.at) m args.terms))
 
 newly_made-asked : (types : Types) (class : Name) (at : ℕ) (w : PlainLexeme) (n : ℕ) (m : Option MemberFace) (args : Bounds)
     → IsAskedType class (newly_made types at w n m args).notes (stamp_of (newly_made types at w n m args).term).ty
@@ -247,7 +247,7 @@ raw-asked types class in_static scope (e.Name w) =
     meant-asked types class in_static (suc w.at) w.text (meaning_of (grounded types class in_static) scope w.text)
 raw-asked types class in_static scope (e.Call w args closing) =
     let g = grounded types class in_static in let m = method_in types class w.text (count args) in
-    own_called-asked types class in_static w m (raw_all g scope (method_params m) args)
+    own_called-asked types class in_static w (count args) m (raw_all g scope (method_params m) args)
 raw-asked types class in_static scope (e.New at w args closing) =
     let g = grounded types class in_static in let m = made_by types w.text (count args) in
     newly_made-asked types class (suc at) w (count args) m (raw_all g scope (maker_params m) args)
@@ -258,7 +258,7 @@ raw-asked types class in_static scope (e.Select from w) =
     let g = grounded types class in_static in selected-asked types class (before g scope from (raw g scope from)) w
 raw-asked types class in_static scope (e.CallOn from w args closing) =
     let g = grounded types class in_static in let b = before g scope from (raw g scope from) in let m = method_named types (class_before b.base) w.text (count args) in
-    called_on-asked types class b w m (raw_all g scope (method_params m) args)
+    called_on-asked types class b w (count args) m (raw_all g scope (method_params m) args)
 raw-asked types class in_static scope (e.Not at operand) =
     let b = fit types (Of face.Bool) (is_paren operand) (raw (grounded types class in_static) scope operand) in
     unless-asked class b.notes (is_bad b.term) (suc at) (suc at) value.Boolean tt

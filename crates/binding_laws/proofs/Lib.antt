@@ -2,3 +2,4 @@ pub mod Told
 pub mod AskedTypes
 pub mod Agreeing
 pub mod OneExpression
+pub mod Covered

@@ -39,29 +39,29 @@ module _ (T U : Types) (class : Name) (in_static : Bool) where
   -- calls, of their parts
   own_call-one : (scope : Scope) (w : PlainLexeme) (n : ℕ) (m : Option NamedMethod) (bind : Ground → List ParamFace → Bounds)
       → m ≡ method_in U class w.text n
-      → AgreeOn T U class (own_called first w m (bind first (method_params m))).notes
+      → AgreeOn T U class (own_called first w n m (bind first (method_params m))).notes
       → (AgreeAtParams T U (method_params m) → AgreeOn T U class (bind first (method_params m)).notes → bind first (method_params m) ≡ bind second (method_params m))
-      → own_called first w m (bind first (method_params m)) ≡ own_called second w (method_in U class w.text n) (bind second (method_params (method_in U class w.text n)))
+      → own_called first w n m (bind first (method_params m)) ≡ own_called second w n (method_in U class w.text n) (bind second (method_params (method_in U class w.text n)))
   own_call-one scope w n m bind is agree same =
-      own_called-one T U class in_static w m (bind first (method_params m)) agree
-      ∙ ap (own_called second w m)
-      (same (method-params T U class m (agree-front T U class (method_notes m) _ agree)) (agree-front T U class (bind first (method_params m)).notes _ (agree-back T U class (method_notes m) _ agree)))
-      ∙ ap (λ (f : Option NamedMethod). own_called second w f (bind second (method_params f))) is
+      own_called-one T U class in_static w n m (bind first (method_params m)) agree
+      ∙ ap (own_called second w n m)
+      (same (method-params T U class n m (agree-front T U class (method_notes n m) _ agree)) (agree-front T U class (bind first (method_params m)).notes _ (agree-back T U class (method_notes n m) _ agree)))
+      ∙ ap (λ (f : Option NamedMethod). own_called second w n f (bind second (method_params f))) is
 
   call_on-one : (w : PlainLexeme) (n : ℕ) (b other : Based) (m : Option NamedMethod) (bind : Ground → List ParamFace → Bounds)
       → b ≡ other
       → m ≡ method_named U (class_before b.base) w.text n
-      → AgreeOn T U class (called_on T b w m (bind first (method_params m))).notes
+      → AgreeOn T U class (called_on T b w n m (bind first (method_params m))).notes
       → (AgreeAtParams T U (method_params m) → AgreeOn T U class (bind first (method_params m)).notes → bind first (method_params m) ≡ bind second (method_params m))
-      → called_on T b w m (bind first (method_params m))
-      ≡ called_on U other w (method_named U (class_before other.base) w.text n) (bind second (method_params (method_named U (class_before other.base) w.text n)))
+      → called_on T b w n m (bind first (method_params m))
+      ≡ called_on U other w n (method_named U (class_before other.base) w.text n) (bind second (method_params (method_named U (class_before other.base) w.text n)))
   call_on-one w n b other m bind based is agree same =
       let told = agree-back T U class b.notes _ agree in
-      called_on-one T U class b w m (bind first (method_params m)) agree
-      ∙ ap (called_on U b w m)
-      (same (method-params T U class m (agree-front T U class (method_notes m) _ told)) (agree-front T U class (bind first (method_params m)).notes _ (agree-back T U class (method_notes m) _ told)))
-      ∙ ap (λ (f : Option NamedMethod). called_on U b w f (bind second (method_params f))) is
-      ∙ ap (λ (x : Based). called_on U x w (method_named U (class_before x.base) w.text n) (bind second (method_params (method_named U (class_before x.base) w.text n)))) based
+      called_on-one T U class b w n m (bind first (method_params m)) agree
+      ∙ ap (called_on U b w n m)
+      (same (method-params T U class n m (agree-front T U class (method_notes n m) _ told)) (agree-front T U class (bind first (method_params m)).notes _ (agree-back T U class (method_notes n m) _ told)))
+      ∙ ap (λ (f : Option NamedMethod). called_on U b w n f (bind second (method_params f))) is
+      ∙ ap (λ (x : Based). called_on U x w n (method_named U (class_before x.base) w.text n) (bind second (method_params (method_named U (class_before x.base) w.text n)))) based
 
   new-one : (at : ℕ) (w : PlainLexeme) (n : ℕ) (m : Option MemberFace) (bind : Ground → List ParamFace → Bounds)
       → m ≡ made_by T w.text n
@@ -72,7 +72,7 @@ module _ (T U : Types) (class : Name) (in_static : Bool) where
       let made = agree w.text (inr (inr (inl refl))) in
       newly_made-one T U class at w n m (bind first (maker_params m)) made
       ∙ ap (newly_made U at w n m)
-      (same (maker-params T U class w.text m (agree-front T U class (made_notes w.text m) _ agree)) (agree-front T U class (bind first (maker_params m)).notes _ (agree-back T U class (made_notes w.text m) _ agree)))
+      (same (maker-params T U class w.text n m (agree-front T U class (made_notes w.text n m) _ agree)) (agree-front T U class (bind first (maker_params m)).notes _ (agree-back T U class (made_notes w.text n m) _ agree)))
       ∙ ap (λ (f : Option MemberFace). newly_made U at w n f (bind second (maker_params f))) (is ∙ made_by-one T U class w.text n made)
 
   mutual
