@@ -46,7 +46,7 @@ unfolding raw
 raw-Name g s w = refl
 
 pub raw-Call : (g : Ground) (s : Scope) (w : PlainLexeme) (args : PlainExprs) (closing : ℕ)
-    → raw g s (e.Call w args closing) ≡ own_called g w (method_in g.types g.class w.text (count args)) (raw_all g s (method_params (method_in g.types g.class w.text (count args))) args)
+    → raw g s (e.Call w args closing) ≡ own_called g w (count args) (method_in g.types g.class w.text (count args)) (raw_all g s (method_params (method_in g.types g.class w.text (count args))) args)
 unfolding raw
 raw-Call g s w args closing = refl
 
@@ -65,7 +65,7 @@ raw-Select g s x w = refl
 
 pub raw-CallOn : (g : Ground) (s : Scope) (x : PlainExpr) (w : PlainLexeme) (args : PlainExprs) (closing : ℕ)
     → raw g s (e.CallOn x w args closing)
-    ≡ called_on g.types (before g s x (raw g s x)) w (method_named g.types (class_before (before g s x (raw g s x)).base) w.text (count args))
+    ≡ called_on g.types (before g s x (raw g s x)) w (count args) (method_named g.types (class_before (before g s x (raw g s x)).base) w.text (count args))
     (raw_all g s (method_params (method_named g.types (class_before (before g s x (raw g s x)).base) w.text (count args))) args)
 unfolding raw
 raw-CallOn g s x w args closing = refl

@@ -370,22 +370,22 @@ in_parens opening b = record { term = restamped (stamp_from opening) b.term; not
 abbrev pub selected : Types → Based → PlainLexeme → Bound
 selected types b w = record { term = select_term types b.base (suc w.at) w.text; notes = b.notes ++ select_notes types b.base (suc w.at) w.text }
 
-abbrev pub own_called : Ground → PlainLexeme → Option NamedMethod → Bounds → Bound
-own_called g w m args = record {
+abbrev pub own_called : Ground → PlainLexeme → ℕ → Option NamedMethod → Bounds → Bound
+own_called g w n m args = record {
   term = own_call_made g (suc w.at) w.text m args.terms;
-  notes = method_notes m ++ (args.notes ++ own_call_notes g (suc w.at) m args.terms);
+  notes = method_notes n m ++ (args.notes ++ own_call_notes g (suc w.at) m args.terms);
 }
 
-abbrev pub called_on : Types → Based → PlainLexeme → Option NamedMethod → Bounds → Bound
-called_on types b w m args = record {
+abbrev pub called_on : Types → Based → PlainLexeme → ℕ → Option NamedMethod → Bounds → Bound
+called_on types b w n m args = record {
   term = call_made types b.base (suc w.at) w.text m args.terms;
-  notes = b.notes ++ (method_notes m ++ (args.notes ++ call_notes types b.base (suc w.at) m args.terms));
+  notes = b.notes ++ (method_notes n m ++ (args.notes ++ call_notes types b.base (suc w.at) m args.terms));
 }
 
 abbrev pub newly_made : Types → ℕ → PlainLexeme → ℕ → Option MemberFace → Bounds → Bound
 newly_made types at w n m args = record {
   term = new_term types at w.text n args.terms;
-  notes = made_notes w.text m ++ (args.notes ++ new_notes types (suc w.at) w.text n args.terms);
+  notes = made_notes w.text n m ++ (args.notes ++ new_notes types (suc w.at) w.text n args.terms);
 }
 
 abbrev pub with_one : UnaryOp → ℕ → Bound → Bound
@@ -410,14 +410,14 @@ unfoldable mutual
   raw g scope (e.This at) = this_at g (suc at)
   raw g scope (e.Name w) = meant g (suc w.at) w.text (meaning_of g scope w.text)
   raw g scope (e.Call w args closing) =
-      let m = method_in g.types g.class w.text (count args) in own_called g w m (raw_all g scope (method_params m) args)
+      let m = method_in g.types g.class w.text (count args) in own_called g w (count args) m (raw_all g scope (method_params m) args)
   raw g scope (e.New at w args closing) =
       let m = made_by g.types w.text (count args) in newly_made g.types (suc at) w (count args) m (raw_all g scope (maker_params m) args)
   raw g scope (e.Paren opening inside closing) = in_parens (suc opening) (raw g scope inside)
   raw g scope (e.Select from w) = selected g.types (before g scope from (raw g scope from)) w
   raw g scope (e.CallOn from w args closing) =
       let b = before g scope from (raw g scope from) in let m = method_named g.types (class_before b.base) w.text (count args)
-      in called_on g.types b w m (raw_all g scope (method_params m) args)
+      in called_on g.types b w (count args) m (raw_all g scope (method_params m) args)
   raw g scope (e.Not at operand) = with_one unary.Not (suc at) (fit g.types (Of face.Bool) (is_paren operand) (raw g scope operand))
   raw g scope (e.Neg at operand) = with_one unary.Negate (suc at) (fit g.types (Of face.Int) (is_paren operand) (raw g scope operand))
   raw g scope (e.Binary l op at r) = with_two g.types op (suc at) (fit g.types (left_place op) (is_paren l) (raw g scope l)) (is_paren r) (raw g scope r)

@@ -57,10 +57,11 @@ abbrev pub method_params : Option NamedMethod → List ParamFace
 method_params None = []
 method_params (Some m) = m.params
 
--- a method that is called is consulted, with the types of its parameters and result
-abbrev pub method_notes : Option NamedMethod → List Note
-method_notes None = []
-method_notes (Some m) = calls m.named.class m.named.name m.params m.result
+-- a method that is called with so many arguments is consulted, with the types of its parameters and
+-- result
+abbrev pub method_notes : ℕ → Option NamedMethod → List Note
+method_notes count None = []
+method_notes count (Some m) = calls m.named.class m.named.name count m.params m.result
 
 -- ---- `new`: a class has the first of its constructors, or one without parameters where it declares
 -- none; so has Object, and nothing else
@@ -72,13 +73,10 @@ abbrev pub maker_params : Option MemberFace → List ParamFace
 maker_params None = []
 maker_params (Some m) = m.params
 
-abbrev pub maker_notes : Name → Option MemberFace → List Note
-maker_notes c None = []
-maker_notes c (Some m) = calls c (codes "new") m.params m.result
-
--- the class stands as a type in any case
-abbrev pub made_notes : Name → Option MemberFace → List Note
-made_notes c found = Names c ∷ maker_notes c found
+-- the class stands as a type in any case; a constructor with so many parameters is asked for, whether
+-- there is one or not
+abbrev pub made_notes : Name → ℕ → Option MemberFace → List Note
+made_notes c count found = Names c ∷ calls c (codes "new") count (maker_params found) None
 
 abbrev pub is_makeable : Types → Name → Bool
 is_makeable types c = is_object c || is_class types c

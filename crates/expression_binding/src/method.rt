@@ -107,8 +107,12 @@ pub(crate) fn method_params<'t>(found: &Option<NamedMethod<'t>>) -> &'t [ParamFa
     }
 }
 
-fn put_method(notes: &mut Items<Note>, found: &Option<NamedMethod<'_>>) -> Result<(), OutOfMemory>
-    ensures { OnOk result (notes.new ≡ notes.old ++ spec.method_notes (spec.shown_found found.now)) }
+fn put_method(
+    notes: &mut Items<Note>,
+    found: &Option<NamedMethod<'_>>,
+    count: usize,
+) -> Result<(), OutOfMemory>
+    ensures { OnOk result (notes.new ≡ notes.old ++ spec.method_notes count (spec.shown_found found.now)) }
 {
     match found {
         Some(method) => {
@@ -117,6 +121,7 @@ fn put_method(notes: &mut Items<Note>, found: &Option<NamedMethod<'_>>) -> Resul
                 notes,
                 &method.named.class,
                 name,
+                count,
                 method.params,
                 method.result,
             )
@@ -134,10 +139,10 @@ pub(crate) fn called<'t, T: TypeTable>(
     notes: &mut Items<Note>,
 ) -> Result<Option<NamedMethod<'t>>, OutOfMemory>
     ensures found { IfOk result (λ found. spec.shown_found found ≡ spec.method_named (T.types site.now.types.now) (option_copied class.entry) name.now count) }
-    ensures notes { OnOk result (notes.new ≡ notes.old ++ spec.method_notes (spec.method_named (T.types site.now.types.now) (option_copied class.entry) name.now count)) }
+    ensures notes { OnOk result (notes.new ≡ notes.old ++ spec.method_notes count (spec.method_named (T.types site.now.types.now) (option_copied class.entry) name.now count)) }
 {
     let found = method_named(site.types, site.alloc, class, name, count)?;
-    put_method(notes, &found)?;
+    put_method(notes, &found, count)?;
     Ok(found)
 }
 
@@ -180,26 +185,18 @@ fn put_maker(
     notes: &mut Items<Note>,
     alloc: Global,
     class: &Name,
+    count: usize,
     maker: Option<&MemberFace>,
 ) -> Result<(), OutOfMemory>
-    ensures { OnOk result (notes.new ≡ notes.old ++ spec.maker_notes class.now (option_copied maker.entry)) }
+    ensures { OnOk result (notes.new ≡ notes.old ++ spec.made_notes class.now count (option_copied maker.entry)) }
 {
-    match maker {
-        Some(member) => {
-            let name = Name::from_slice(alloc, b"new")?;
-            put_call(
-                notes,
-                class,
-                name,
-                member.params.as_slice(),
-                member.result.as_ref(),
-            )
-        }
-        None => Ok(()),
-    }
+    put_name(notes, class)?;
+    let name = Name::from_slice(alloc, b"new")?;
+    put_call(notes, class, name, count, maker_params(maker), None)
 }
 
-/// The constructor that a `new` calls, if it calls one; the class and the constructor are put.
+/// The constructor that a `new` calls, if it calls one; the class and a constructor with so many
+/// parameters are put.
 pub(crate) fn made<'t, T: TypeTable>(
     site: &Ground<'t, T>,
     class: &Name,
@@ -207,10 +204,9 @@ pub(crate) fn made<'t, T: TypeTable>(
     notes: &mut Items<Note>,
 ) -> Result<Option<&'t MemberFace>, OutOfMemory>
     ensures found { IfOk result (λ found. option_copied found ≡ spec.made_by (T.types site.now.types.now) class.now count) }
-    ensures notes { OnOk result (notes.new ≡ notes.old ++ spec.made_notes class.now (spec.made_by (T.types site.now.types.now) class.now count)) }
+    ensures notes { OnOk result (notes.new ≡ notes.old ++ spec.made_notes class.now count (spec.made_by (T.types site.now.types.now) class.now count)) }
 {
     let found = made_by(site.types, class, count);
-    put_name(notes, class)?;
-    put_maker(notes, site.alloc, class, found)?;
+    put_maker(notes, site.alloc, class, count, found)?;
     Ok(found)
 }

@@ -1,5 +1,5 @@
 -- What is told on the way of binding.
-use Rattle.std.specs.Prelude.{ℕ, Bool, if◌then◌else◌, List, [], ◌∷◌, ◌++◌, Option, Some, None, length}
+use Rattle.std.specs.Prelude.{ℕ, Bool, if◌then◌else◌, List, [], ◌∷◌, ◌++◌, Option, Some, None}
 use Rattle.class_faces.specs.declared.face.FaceTy.{FaceTy}
 use Rattle.class_faces.specs.declared.face.FaceTy.TheVariants as face
 use Rattle.class_faces.specs.declared.face.ParamFace.{ParamFace}
@@ -27,6 +27,6 @@ abbrev pub consults_params : List ParamFace → List Note
 consults_params [] = []
 consults_params (p ∷ ps) = consults p.ty ++ consults_params ps
 
--- a member of a class is called, with the types of its parameters and result
-abbrev pub calls : Name → Name → List ParamFace → Option FaceTy → List Note
-calls c name params given = Calls c name (length params) ∷ (consults_result given ++ consults_params params)
+-- a member of a class is called with so many arguments, with the types of its parameters and result
+abbrev pub calls : Name → Name → ℕ → List ParamFace → Option FaceTy → List Note
+calls c name count params given = Calls c name count ∷ (consults_result given ++ consults_params params)

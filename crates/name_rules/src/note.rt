@@ -8,7 +8,7 @@ use result_records::FindingCode;
 
 /// What binding tells of a unit on its way: a bind finding with the number of its token, a type name
 /// that is consulted, or a member that is called, by its class, its name (`new` for a constructor) and
-/// its number of parameters, whose promises are consulted too.
+/// the number of arguments, whose promises are consulted too.
 #[derive(Drop)]
 pub enum Note {
     Finding(FindingCode, u32),
@@ -78,17 +78,18 @@ pub fn put_params(notes: &mut Items<Note>, params: &[ParamFace]) -> Result<(), O
     Ok(())
 }
 
-/// Puts a member that is called, with the types of its result and parameters.
+/// Puts a member that is called with so many arguments, with the types of its result and parameters.
 pub fn put_call(
     notes: &mut Items<Note>,
     class: &Name,
     name: Name,
+    count: usize,
     params: &[ParamFace],
     given: Option<&FaceTy>,
 ) -> Result<(), OutOfMemory>
-    ensures { OnOk result (notes.new ≡ notes.old ++ spec.calls class.now name params.now (option_copied given.entry)) }
+    ensures { OnOk result (notes.new ≡ notes.old ++ spec.calls class.now name count params.now (option_copied given.entry)) }
 {
-    notes.push(Note::Calls(class.clone()?, name, params.len()))?;
+    notes.push(Note::Calls(class.clone()?, name, count))?;
     put_given(notes, given)?;
     put_params(notes, params)?;
     Ok(())
