@@ -1,5 +1,5 @@
 -- Each field, method and constructor that stands in a bound expression is told by its notes.
-use Rattle.std.proofs.Common.{◌≡◌, refl, ℕ, suc, ◌+◌, Bool, true, false, ◌||◌, if◌then◌else◌, List, [], ◌∷◌, ◌++◌, ◌⊎◌, inl, inr, drop, codes, Option, Some, None, sym, ap, ◌∙◌, subst}
+use Rattle.std.proofs.Common.{◌≡◌, refl, ℕ, suc, ◌+◌, Bool, true, false, ◌||◌, if◌then◌else◌, List, [], ◌∷◌, ◌++◌, ◌⊎◌, inl, inr, drop, codes, Option, Some, None, sym, ap, ◌∙◌, subst, add-one}
 use Rattle.class_faces.specs.declared.face.FaceTy.TheVariants as face
 use Rattle.class_faces.specs.declared.face.FieldFace.{FieldFace}
 use Rattle.class_faces.specs.declared.face.ParamFace.{ParamFace}
@@ -316,7 +316,7 @@ newly_made-covers types class at w n m args is h =
 bound-count : (g : Ground) (scope : Scope) (params : List ParamFace) (xs : PlainExprs) → lower.count (terms (raw_all g scope params xs).terms) ≡ count xs
 unfolding raw
 bound-count g scope params e.no_exprs = refl
-bound-count g scope params (e.expr x xs) = ap suc (bound-count g scope (drop 1 params) xs)
+bound-count g scope params (e.expr x xs) = ap (λ (k : ℕ). k + 1) (bound-count g scope (drop 1 params) xs) ∙ add-one (count xs)
 
 module _ (types : Types) (class : Name) (none : types (codes "String") ≡ None) (in_static : Bool) (scope : Scope) where
   abbrev ground : Ground

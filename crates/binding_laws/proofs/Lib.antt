@@ -3,3 +3,4 @@ pub mod AskedTypes
 pub mod Agreeing
 pub mod OneExpression
 pub mod Covered
+pub mod MovedMarks
