@@ -1,7 +1,7 @@
 -- What promise annotations give, and where they stand, is told without their places.
-use Rattle.std.proofs.Common.{◌≡◌, refl, ℕ, ◌+◌, ◌==◌, Bool, true, false, not, if◌then◌else◌, List, [], ◌∷◌, ◌++◌, map, Option, Some, None, sym, ap, ap₂, ◌∙◌}
+use Rattle.std.proofs.Common.{◌≡◌, refl, ℕ, ◌+◌, ◌==◌, Bool, false, ◌||◌, not, if◌then◌else◌, List, [], ◌∷◌, ◌++◌, map, Option, Some, None, sym, ap, ap₂, ◌∙◌}
 use Rattle.std.specs.Str.{bytes_eq}
-use Rattle.std.specs.List.{flat_map, list_any, slice_get}
+use Rattle.std.specs.List.{list_any, slice_get}
 use Rattle.std.specs.Option.{option_map}
 use Rattle.std.proofs.lemmas.Option.{slice_get-map}
 use Rattle.desk_base.specs.declared.span.Span.{Span}
@@ -15,7 +15,6 @@ use Rattle.java_tree.specs.declared.member.Elem.{Elem}
 use Rattle.java_tree.specs.declared.member.Elem.TheVariants as element
 use Rattle.java_tree.specs.declared.member.Mod.{Mod}
 use Rattle.java_tree.specs.declared.member.Mod.TheVariants as modifier
-use Rattle.java_tree.specs.declared.member.ModWord.{ModWord}
 use Rattle.java_tree.specs.declared.member.ModWord.TheVariants as modword
 use Rattle.java_tree.specs.declared.member.Ty.{Ty}
 use Rattle.java_tree.specs.declared.member.Ty.TheVariants as ty
@@ -29,9 +28,8 @@ use Rattle.promise_grammar.specs.declared.kind.PromiseKind.{PromiseKind}
 use Rattle.promise_grammar.specs.Kind.{kind_named, kind_text}
 use Rattle.promise_grammar.specs.declared.tree.PromiseTree.{PromiseTree}
 use Rattle.promise_marks.specs.declared.mark.Mark.{Mark}
-use Rattle.promise_marks.specs.Given.{Given, last_name, name_of, elems_in, elems_of, string_in, content_of, held_by, given, by_held, by_inner, by_all, by_container, by_kind, by_annot, by_mod, by_mods, by_params, by_member}
+use Rattle.promise_marks.specs.Given.{Given, last_name, name_of, elems_in, string_in, content_of, held_by, given, by_held, by_inner, by_all, by_container, by_kind, by_annot, by_mod, by_mods, by_params, by_member}
 use Rattle.promise_marks.specs.Marks.{IsTree, IsMark, AreMarks}
-use Rattle.class_faces.specs.declared.face.FaceTy.{FaceTy}
 use Rattle.class_faces.specs.Faces.{face_ty, is_static_word, is_final_word, is_static, is_final}
 use Rattle.scrub_rules.specs.declared.place.TypeSort.{TypeSort}
 use Rattle.scrub_rules.specs.declared.place.Site.{Site}
@@ -127,7 +125,7 @@ module _ (place : Span → Span) where
   module _ (test : Mod → Bool) (same : (m : Mod) → test (moved_mod place m) ≡ test m) where
     any-moved : (ms : List Mod) → list_any test (moved_mods place ms) ≡ list_any test ms
     any-moved [] = refl
-    any-moved (m ∷ ms) = ap₂ (λ (a b : Bool). if a then true else b) (same m) (any-moved ms)
+    any-moved (m ∷ ms) = ap₂ (λ (a b : Bool). a || b) (same m) (any-moved ms)
 
   pub static-moved : (ms : List Mod) → is_static (moved_mods place ms) ≡ is_static ms
   static-moved ms = any-moved is_static_word static_word-moved ms

@@ -1,0 +1,4 @@
+pub mod Appends
+pub mod Shapes
+pub mod Blocks
+pub mod Walk

@@ -1,0 +1,10 @@
+pub mod Declared
+pub mod Initials
+pub mod Done
+pub mod Locals
+pub mod Finals
+pub mod Writes
+pub mod Heads
+pub mod Ends
+pub mod Statements
+pub mod Bodies
