@@ -4,3 +4,4 @@ pub mod Agreeing
 pub mod OneExpression
 pub mod Covered
 pub mod MovedMarks
+pub mod OneStatement
