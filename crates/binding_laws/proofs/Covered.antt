@@ -22,7 +22,7 @@ use Rattle.name_rules.specs.declared.note.Note.TheVariants as note
 use Rattle.name_rules.specs.declared.uses.Use.{Use}
 use Rattle.name_rules.specs.Types.{Name, Types, is_known_name, field_in}
 use Rattle.name_rules.specs.Scopes.{Scope, Meaning, IsVariable, IsField, IsHidden, IsFree}
-use Rattle.name_rules.specs.Places as at
+use Rattle.name_rules.specs.Places as asked
 use Rattle.expression_binding.specs.Stamps.{used, restamped, stamp_from, spoilt_stamp}
 use Rattle.expression_binding.specs.Fields.{NamedField, face_field, named_field, field_named}
 use Rattle.expression_binding.specs.Methods.{NamedMethod, method_in, method_named, method_params, method_notes, made_by, made_notes, is_made, maker_params}
@@ -193,7 +193,7 @@ terms-back class ns ms = terms-more (IsCovered class ms) (IsCovered class (ns ++
 
 -- ---- places
 
-pub fit-covers : (types : Types) (class : Name) (p : at.Place) (in_paren : Bool) (b : Bound) → TermEach (IsCovered class b.notes) b.term
+pub fit-covers : (types : Types) (class : Name) (p : asked.Place) (in_paren : Bool) (b : Bound) → TermEach (IsCovered class b.notes) b.term
     → TermEach (IsCovered class (fit types p in_paren b).notes) (fit types p in_paren b).term
 fit-covers types class p in_paren b h =
     let found = found_at types p b.term in
@@ -261,10 +261,10 @@ made-covers types class notes (OnValue v) at name (Some f) own h = either-each (
 selected-covers : (types : Types) (class : Name) → types (codes "String") ≡ None → (b : Based) (w : PlainLexeme)
     → IsAskedName class b.notes (class_before b.base) → BeforeEach (IsCovered class b.notes) b.base
     → TermEach (IsCovered class (selected types b w).notes) (selected types b w).term
-selected-covers types class none b w asked h =
+selected-covers types class none b w named h =
     term-front class b.notes _ (selected types b w).term
     (made-covers types class b.notes b.base (suc w.at) w.text (field_named types (class_before b.base) w.text)
-    (field-owner types class b.notes none (class_before b.base) asked w.text) h)
+    (field-owner types class b.notes none (class_before b.base) named w.text) h)
 
 -- ---- calls
 
@@ -325,8 +325,8 @@ module _ (types : Types) (class : Name) (none : types (codes "String") ≡ None)
   before-covers : (from : PlainExpr) → TermEach (IsCovered class (raw ground scope from).notes) (raw ground scope from).term
       → BeforeEach (IsCovered class (before ground scope from (raw ground scope from)).notes) (before ground scope from (raw ground scope from)).base
   before-covers from h =
-      by-covers types class (type_word ground scope from) (fit types at.AnyValue (is_paren from) (raw ground scope from))
-      (fit-covers types class at.AnyValue (is_paren from) (raw ground scope from) h)
+      by-covers types class (type_word ground scope from) (fit types asked.AnyValue (is_paren from) (raw ground scope from))
+      (fit-covers types class asked.AnyValue (is_paren from) (raw ground scope from) h)
 
   mutual
     unfolding raw
@@ -355,8 +355,8 @@ module _ (types : Types) (class : Name) (none : types (codes "String") ≡ None)
         let b = before ground scope from (raw ground scope from) in let m = method_named types (class_before b.base) w.text (count args) in
         called_on-covers types class b w (count args) m (raw_all ground scope (method_params m) args)
         (bound-count ground scope (method_params m) args) (before-covers from (raw-covers from)) (raw_all-covers (method_params m) args)
-    raw-covers (e.Not at operand) = fit-covers types class (at.Of face.Bool) (is_paren operand) (raw ground scope operand) (raw-covers operand)
-    raw-covers (e.Neg at operand) = fit-covers types class (at.Of face.Int) (is_paren operand) (raw ground scope operand) (raw-covers operand)
+    raw-covers (e.Not at operand) = fit-covers types class (asked.Of face.Bool) (is_paren operand) (raw ground scope operand) (raw-covers operand)
+    raw-covers (e.Neg at operand) = fit-covers types class (asked.Of face.Int) (is_paren operand) (raw ground scope operand) (raw-covers operand)
     raw-covers (e.Binary l op at r) =
         let a = fit types (left_place op) (is_paren l) (raw ground scope l) in
         let b = raw ground scope r in
@@ -373,7 +373,7 @@ module _ (types : Types) (class : Name) (none : types (codes "String") ≡ None)
         (term-front class a.notes _ a.term (fit-covers types class (argument_place params) (is_paren x) (raw ground scope x) (raw-covers x)),
         terms-back class a.notes _ (terms (raw_all ground scope (drop 1 params) xs).terms) (raw_all-covers (drop 1 params) xs))
 
-  pub fitted-covers : (p : at.Place) (x : PlainExpr) → TermEach (IsCovered class (fit types p (is_paren x) (raw ground scope x)).notes) (fit types p (is_paren x) (raw ground scope x)).term
+  pub fitted-covers : (p : asked.Place) (x : PlainExpr) → TermEach (IsCovered class (fit types p (is_paren x) (raw ground scope x)).notes) (fit types p (is_paren x) (raw ground scope x)).term
   fitted-covers p x = fit-covers types class p (is_paren x) (raw ground scope x) (raw-covers x)
 
 -- ---- places

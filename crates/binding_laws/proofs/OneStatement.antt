@@ -219,13 +219,13 @@ module _ (T U : Types) (class : Name) (in_static : Bool) where
       let x = fitted first scope (result_place result) v in
       ap (returns result at) (fitted-one scope (result_place result) v (front x.notes _ agree) (result-agrees result h))
 
-  chosen-one : (test other_test : Bound) (yes other_yes no other_no : Done) → AgreeOn T U class (chosen test yes no).notes
-      → (AgreeOn T U class test.notes → test ≡ other_test) → (AgreeOn T U class yes.notes → yes ≡ other_yes) → (AgreeOn T U class no.notes → no ≡ other_no)
-      → chosen test yes no ≡ chosen other_test other_yes other_no
-  chosen-one test other_test yes other_yes no other_no agree one two three =
+  chosen-one : (test other_test : Bound) (does other_does rest other_rest : Done) → AgreeOn T U class (chosen test does rest).notes
+      → (AgreeOn T U class test.notes → test ≡ other_test) → (AgreeOn T U class does.notes → does ≡ other_does) → (AgreeOn T U class rest.notes → rest ≡ other_rest)
+      → chosen test does rest ≡ chosen other_test other_does other_rest
+  chosen-one test other_test does other_does rest other_rest agree one two three =
       let more = back test.notes _ agree in
-      ap₂ (λ (x : Bound) (y : Done). chosen x y no) (one (front test.notes _ agree)) (two (front yes.notes no.notes more))
-      ∙ ap (chosen other_test other_yes) (three (back yes.notes no.notes more))
+      ap₂ (λ (x : Bound) (y : Done). chosen x y rest) (one (front test.notes _ agree)) (two (front does.notes rest.notes more))
+      ∙ ap (chosen other_test other_does) (three (back does.notes rest.notes more))
 
   repeated-one : (test other_test : Bound) (does other_does : Done) → AgreeOn T U class (repeated test does).notes
       → (AgreeOn T U class test.notes → test ≡ other_test) → (AgreeOn T U class does.notes → does ≡ other_does)
