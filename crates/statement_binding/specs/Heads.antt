@@ -40,7 +40,7 @@ condition_if_any g scope at None = always at
 condition_if_any g scope at (Some test) = condition g scope test
 
 abbrev pub chosen : Bound → Done → Done → Done
-chosen test yes no = record { made = t.If test.term yes.made no.made; notes = test.notes ++ (yes.notes ++ no.notes) }
+chosen test does other = record { made = t.If test.term does.made other.made; notes = test.notes ++ (does.notes ++ other.notes) }
 
 abbrev pub repeated : Bound → Done → Done
 repeated test does = record { made = t.While test.term does.made; notes = test.notes ++ does.notes }

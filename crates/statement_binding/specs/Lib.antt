@@ -1,4 +1,4 @@
-pub mod Declared
+pub mod DeclaredTypes
 pub mod Initials
 pub mod Done
 pub mod Locals

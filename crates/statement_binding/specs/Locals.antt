@@ -14,7 +14,7 @@ use Rattle.name_rules.specs.Places.{Of}
 use Rattle.expression_binding.specs.Stamps.{type_of}
 use Rattle.expression_binding.specs.Bound.{Ground, Bound, fitted}
 use Rattle.statement_binding.specs.declared.locals.Locals.{Locals}
-use Rattle.statement_binding.specs.Declared.{declared, declared_notes}
+use Rattle.statement_binding.specs.DeclaredTypes.{declared, declared_notes}
 use Rattle.statement_binding.specs.Done.{Done}
 
 abbrev pub local_type : PlainLocal → FaceTy

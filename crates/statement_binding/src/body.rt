@@ -62,7 +62,7 @@ fn put_end(
 
 /// The body of a method, a constructor or a main, under its parameters, which are in scope in all of it.
 /// The first local gets the number. What is found and consulted is put behind the notes in written order.
-#[tactic(auto, using(crate::proofs::Blocks::body_blocks, crate::proofs::Appends::appends))]
+#[tactic(auto, using(crate::proofs::Appends::appends))]
 pub fn bind_body<T: TypeTable>(
     site: &Ground<'_, T>,
     head: MemberHead<'_>,

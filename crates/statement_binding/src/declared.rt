@@ -2,7 +2,7 @@ ghost use Rattle.std.specs.Prelude.{◌≡◌, ℕ, ◌++◌, IfOk, OnOk};
 ghost use Rattle.desk_base.specs.declared.span.Span.{Span};
 ghost use Rattle.tree_places.specs.Numbers.{number_of};
 ghost use Rattle.tree_places.specs.Plain.{plain_lexeme, plain_ty};
-ghost use Rattle.statement_binding.specs.Declared as spec;
+ghost use Rattle.statement_binding.specs.DeclaredTypes as spec;
 
 use class_faces::FaceTy;
 use desk_base::{Items, OutOfMemory};

@@ -34,12 +34,7 @@ pub(crate) fn bind_condition<T: TypeTable>(
 
 /// Code that is done where a condition holds, and code that is done where it doesn't.
 #[tactic(auto, using(bound_tree::proofs::Readings::readings))]
-pub(crate) fn choice(
-    alloc: Global,
-    test: Expr,
-    yes: Stmt,
-    no: Stmt,
-) -> Result<Stmt, OutOfMemory>
+pub(crate) fn choice(alloc: Global, test: Expr, yes: Stmt, no: Stmt) -> Result<Stmt, OutOfMemory>
     ensures { IfOk result (λ made. statement_of made ≡ t.If (term_of test) (statement_of yes) (statement_of no)) }
 {
     let yes = Boxed::new(alloc, yes)?;

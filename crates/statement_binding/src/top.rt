@@ -99,9 +99,7 @@ fn bind_top_stmt<T: TypeTable>(
     ensures locals { OnOk result (locals.new ≡ behind locals.old (plain_stmt (number_of site.now.places.now) stmt.now)) }
 {
     match stmt {
-        Java::Action(action, _) => {
-            bind_top_action(site, &locals.scope, written, action, notes)
-        }
+        Java::Action(action, _) => { bind_top_action(site, &locals.scope, written, action, notes) }
         Java::Block(_)
         | Java::Empty(_)
         | Java::If(_, _, _, _)

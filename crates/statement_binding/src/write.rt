@@ -81,7 +81,12 @@ fn judged_target<T: TypeTable>(
     ensures notes { OnOk result (notes.new ≡ notes.old ++ spec.write_notes (spec.is_forbidden (grounded (T.types site.now.types.now) site.now.class.now site.now.is_static) scope.now may (plain_expr (number_of site.now.places.now) target.now) (term_of bound)) (term_of bound)) }
 {
     let forbidden = is_forbidden(site, scope, may, target, &bound);
-    put_finding_if(notes, forbidden, FindingCode::FinalWrite, stamp_of(&bound).at)?;
+    put_finding_if(
+        notes,
+        forbidden,
+        FindingCode::FinalWrite,
+        stamp_of(&bound).at,
+    )?;
     Ok(target_if(forbidden, bound))
 }
 
