@@ -1,0 +1,4 @@
+pub mod Shows
+pub mod Lists
+pub mod Beginnings
+pub mod Implementing
