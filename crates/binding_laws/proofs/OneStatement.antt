@@ -25,7 +25,7 @@ use Rattle.expression_binding.specs.Stamps.{judged_given, type_of}
 use Rattle.expression_binding.specs.Bound.{Ground, grounded, Bound, fitted}
 use Rattle.expression_binding.specs.Laws.{IsAsked, IsAskedType, AgreeOn, AgreeAtType, AgreeAt}
 use Rattle.statement_binding.specs.declared.locals.Locals.{Locals}
-use Rattle.statement_binding.specs.Declared.{declared, name_notes, declared_notes}
+use Rattle.statement_binding.specs.DeclaredTypes.{declared, name_notes, declared_notes}
 use Rattle.statement_binding.specs.Done.{Done, DoneAll, none_done, one_done, before_others, block}
 use Rattle.statement_binding.specs.Locals.{local_type, name_found, declaration, ended}
 use Rattle.statement_binding.specs.Finals.{is_final, final_meaning, blank_meaning, blank_instance, name_if, is_this, blank_target, Written, is_first_write, with_written}
