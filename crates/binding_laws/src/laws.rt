@@ -1,0 +1,8 @@
+ghost use Rattle.expression_binding.specs.Laws.{TypesAreAsked, OneAnswer};
+
+/// The type of a bound expression is the own class, String or one that its notes tell, and under two
+/// tables that say one thing of these, and of the type that its place asks for, it is bound to one.
+pub fn expressions_rest_on_what_they_tell()
+    ensures types { TypesAreAsked }
+    ensures one { OneAnswer }
+{}
