@@ -311,7 +311,7 @@ module _ (T U : Types) (class : Name) (in_static : Bool) where
       (top_statements first (written_behind first written ls.scope s) (behind ls s) others) (top_statements second (written_behind first written ls.scope s) (behind ls s) others) agree
       (top_statement-one written ls s) (top_statements-one (written_behind first written ls.scope s) (behind ls s) others)
       ∙ ap (λ (name : Option Name). before_others (top_statement second written ls s) (top_statements second (with_written written name) (behind ls s) others))
-      (field_set-one ls.scope s (own _ agree))
+      (field_set-one ls.scope s (own (top_statements first written ls (p.stmt s others)).notes agree))
 
   -- ---- bodies
 
@@ -329,6 +329,6 @@ module _ (T U : Types) (class : Name) (in_static : Bool) where
   pub body-one : (head : Head) (scope : Scope) (local : ℕ) (s : PlainStmt) → AgreeAtGiven T U head.result → AgreeOn T U class (body first head scope local s).notes
       → body first head scope local s ≡ body second head scope local s
   body-one head scope local s h agree =
-      let ls = record { scope = scope; next = local } in
+      let ls : Locals = record { scope = scope; next = local } in
       ap (λ (d : DoneAll). with_end (block d) (end_notes head s))
       (items-one head ls (items_of s) h (front (items_done first head ls (items_of s)).notes (end_notes head s) agree))
