@@ -79,7 +79,7 @@ mutual
   terms-more P Q more t.no_terms h = tt
   terms-more P Q more (t.term e es) h = (term-more P Q more e h.0, terms-more P Q more es h.1)
 
-restamped-each : (P : What → Type 0) (change : Stamp → Stamp) (v : Term) → TermEach P v → TermEach P (restamped change v)
+pub restamped-each : (P : What → Type 0) (change : Stamp → Stamp) (v : Term) → TermEach P v → TermEach P (restamped change v)
 restamped-each P change (t.Const s l) h = h
 restamped-each P change (t.This s) h = h
 restamped-each P change (t.Local s x) h = h

@@ -5,3 +5,4 @@ pub mod OneExpression
 pub mod Covered
 pub mod MovedMarks
 pub mod OneStatement
+pub mod EachStatement
