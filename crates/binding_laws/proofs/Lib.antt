@@ -6,3 +6,4 @@ pub mod Covered
 pub mod MovedMarks
 pub mod OneStatement
 pub mod EachStatement
+pub mod CoveredBody
