@@ -7,3 +7,5 @@ pub mod MovedMarks
 pub mod OneStatement
 pub mod EachStatement
 pub mod CoveredBody
+pub mod InOrder
+pub mod CoveredUnit
