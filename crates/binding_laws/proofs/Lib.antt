@@ -9,3 +9,4 @@ pub mod EachStatement
 pub mod CoveredBody
 pub mod InOrder
 pub mod CoveredUnit
+pub mod Covering

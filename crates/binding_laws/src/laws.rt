@@ -1,8 +1,15 @@
 ghost use Rattle.expression_binding.specs.Laws.{TypesAreAsked, OneAnswer};
+ghost use Rattle.binding_laws.specs.Laws.{BindingCovers};
 
 /// The type of a bound expression is the own class, String or one that its notes tell, and under two
 /// tables that say one thing of these, and of the type that its place asks for, it is bound to one.
 pub fn expressions_rest_on_what_they_tell()
     ensures types { TypesAreAsked }
     ensures one { OneAnswer }
+{}
+
+/// The consulted names of a bound unit cover whatever an analysis may ask of it under the view that it was
+/// bound under, where no declared type has the name String.
+pub fn consulted_names_cover()
+    ensures { BindingCovers }
 {}

@@ -4,4 +4,4 @@
 
 mod laws;
 
-pub use laws::expressions_rest_on_what_they_tell;
+pub use laws::{consulted_names_cover, expressions_rest_on_what_they_tell};
