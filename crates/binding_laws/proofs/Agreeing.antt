@@ -68,7 +68,7 @@ module _ (T U : Types) where
   suits-one : (c d : Name) → T c ≡ U c → T d ≡ U d → class_suits T c d ≡ class_suits U c d
   suits-one c d f h = ap₂ (suits_by c d) f h
 
-  misplaced-one : (p : Place) (given : Option rules.ValueType) → AgreeAt T U p → AgreeAtHad given → misplaced T p given ≡ misplaced U p given
+  pub misplaced-one : (p : Place) (given : Option rules.ValueType) → AgreeAt T U p → AgreeAtHad given → misplaced T p given ≡ misplaced U p given
   misplaced-one Anywhere None p g = refl
   misplaced-one Anywhere (Some v) p g = refl
   misplaced-one AnyValue None p g = refl

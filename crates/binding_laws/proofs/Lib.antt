@@ -10,3 +10,5 @@ pub mod CoveredBody
 pub mod InOrder
 pub mod CoveredUnit
 pub mod Covering
+pub mod MovedBegins
+pub mod MovedUnit

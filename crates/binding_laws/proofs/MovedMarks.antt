@@ -123,7 +123,7 @@ module _ (place : Span → Span) where
   final_word-moved _ = refl
 
   module _ (test : Mod → Bool) (same : (m : Mod) → test (moved_mod place m) ≡ test m) where
-    any-moved : (ms : List Mod) → list_any test (moved_mods place ms) ≡ list_any test ms
+    pub any-moved : (ms : List Mod) → list_any test (moved_mods place ms) ≡ list_any test ms
     any-moved [] = refl
     any-moved (m ∷ ms) = ap₂ (λ (a b : Bool). a || b) (same m) (any-moved ms)
 

@@ -63,12 +63,12 @@ module _ (T U : Types) (class : Name) (in_static : Bool) where
 
   -- ---- declared types
 
-  declared-one : (ty : PlainTy) → AgreeOn T U class (declared_notes T ty) → declared_notes T ty ≡ declared_notes U ty
+  pub declared-one : (ty : PlainTy) → AgreeOn T U class (declared_notes T ty) → declared_notes T ty ≡ declared_notes U ty
   declared-one (p.Int at) agree = refl
   declared-one (p.Boolean at) agree = refl
   declared-one (p.Named w) agree = ap (λ (f : Option Face). name_notes (λ _. f) w) (agree w.text (inr (inr (inl refl))))
 
-  declared-agrees : (ty : PlainTy) → AgreeOn T U class (declared_notes T ty) → AgreeAtType T U (declared ty)
+  pub declared-agrees : (ty : PlainTy) → AgreeOn T U class (declared_notes T ty) → AgreeAtType T U (declared ty)
   declared-agrees (p.Int at) agree = tt
   declared-agrees (p.Boolean at) agree = tt
   declared-agrees (p.Named w) agree = agree w.text (inr (inr (inl refl)))
