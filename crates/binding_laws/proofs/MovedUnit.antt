@@ -3,7 +3,6 @@ use Rattle.std.proofs.Common.{◌≡◌, refl, ℕ, suc, ◌+◌, Bool, true, fa
 use Rattle.std.specs.List.{flat_map, list_any}
 use Rattle.std.specs.Option.{option_map}
 use Rattle.std.specs.Str.{bytes_eq}
-use Rattle.std.proofs.lemmas.List.{length-map}
 use Rattle.desk_base.specs.declared.span.Span.{Span}
 use Rattle.java_tree.specs.declared.file.ClassTree.{ClassTree}
 use Rattle.java_tree.specs.declared.member.Field.{Field as JavaField}
@@ -129,6 +128,10 @@ module _ (place : Span → Span) (number : Span → ℕ) where
   result_notes-moved types None = refl
   result_notes-moved types (Some t) = declared-moved types t
 
+  count-moved : (ps : List Param) → length (moved_params place ps) ≡ length ps
+  count-moved [] = refl
+  count-moved (p ∷ ps) = ap suc (count-moved ps)
+
   -- ---- members with code
 
   abbrev moved_code : Code → Code
@@ -175,7 +178,7 @@ module _ (place : Span → Span) (number : Span → ℕ) where
         ap₂ (λ (r : Option FaceTy) (scope : Scope). body (ground_of faces class c.is_static) (head_with c r) scope (first + length (moved_params place c.params)) (plain_block number (moved_block place c.block)))
         (result_face-moved c.result) (scope-moved first [] c.params)
         ∙ ap₂ (λ (n : ℕ) (s : PlainStmt). body (ground_of faces class c.is_static) (head_of far c) (params_scope first [] c.params) (first + n) s)
-        (length-map (moved_param place) c.params) (plain-moved_block place number c.block)
+        (count-moved c.params) (plain-moved_block place number c.block)
 
     head-moved : (c : Code) → head_notes faces number (moved_code c) ≡ head_notes faces far c
     head-moved c =
@@ -271,9 +274,9 @@ module _ (place : Span → Span) (number : Span → ℕ) where
 
     repeated-moved : (m : MemberTree) (key : List ℕ) → repeated_notes number class (moved_member place m) key ≡ repeated_notes far class m key
     repeated-moved (member.Field f) key = refl
-    repeated-moved (member.Method m) key = ap (repeated_with key (key_name (member.Method m)) m.name.span) (length-map (moved_param place) m.params)
-    repeated-moved (member.Sig s) key = ap (repeated_with key (key_name (member.Sig s)) s.name.span) (length-map (moved_param place) s.params)
-    repeated-moved (member.Ctor c) key = ap (repeated_with key (key_name (member.Ctor c)) c.name.span) (length-map (moved_param place) c.params)
+    repeated-moved (member.Method m) key = ap (repeated_with key (key_name (member.Method m)) m.name.span) (count-moved m.params)
+    repeated-moved (member.Sig s) key = ap (repeated_with key (key_name (member.Sig s)) s.name.span) (count-moved s.params)
+    repeated-moved (member.Ctor c) key = ap (repeated_with key (key_name (member.Ctor c)) c.name.span) (count-moved c.params)
     repeated-moved (member.Main m) key = refl
 
     abbrev bound_with : (key : List ℕ) → List ℕ → List Written → MadePart → List Note → Bound
