@@ -12,3 +12,4 @@ pub mod CoveredUnit
 pub mod Covering
 pub mod MovedBegins
 pub mod MovedUnit
+pub mod OneUnit
