@@ -13,3 +13,5 @@ pub mod Covering
 pub mod MovedBegins
 pub mod MovedUnit
 pub mod OneUnit
+pub mod OneConsulted
+pub mod OneBinding
