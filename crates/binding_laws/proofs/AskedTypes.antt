@@ -1,5 +1,5 @@
 -- The type of a bound expression is one that its answer rests on.
-use Rattle.std.proofs.Common.{◌≡◌, refl, ℕ, suc, Bool, true, false, ◌||◌, if◌then◌else◌, length, List, [], ◌∷◌, ◌++◌, inl, inr, Option, Some, None, sym, subst}
+use Rattle.std.proofs.Common.{◌≡◌, refl, ℕ, suc, Bool, true, false, ◌||◌, if◌then◌else◌, List, [], ◌∷◌, ◌++◌, inl, inr, Option, Some, None, sym, subst}
 use Rattle.class_faces.specs.declared.face.FaceTy.{FaceTy}
 use Rattle.class_faces.specs.declared.face.FaceTy.TheVariants as face
 use Rattle.class_faces.specs.declared.face.FieldFace.{FieldFace}

@@ -7,28 +7,25 @@ use Rattle.class_faces.specs.declared.face.MemberFace.{MemberFace}
 use Rattle.java_tree.specs.declared.expr.BinaryOp.{BinaryOp}
 use Rattle.java_tree.specs.declared.expr.BinaryOp.TheVariants as operator
 use Rattle.result_records.specs.declared.code.FindingCode.{FindingCode}
-use Rattle.bound_tree.specs.declared.name.ValueType.{ValueType}
 use Rattle.bound_tree.specs.declared.tree.Stamp.{Stamp}
-use Rattle.bound_tree.specs.declared.tree.UnaryOp.TheVariants as unary
 use Rattle.bound_tree.specs.Tree.{Term, Terms, no_terms, term, stamp_of, is_bad}
 use Rattle.bound_tree.specs.Tree as t
 use Rattle.bound_tree.specs.Reading.{terms}
-use Rattle.bound_tree.specs.Places.{Place, What, Goal, Owner, Reads, Writes, Calls, Makes, Starts, Locks, Flows, Of, OfClass, ToReceiver, ToArgument, ToConstructor, ToNothing, term_places, args_places}
+use Rattle.bound_tree.specs.Places.{Place, What, Goal, Reads, Writes, Calls, Makes, Starts, Locks, Flows, Of, OfClass, ToReceiver, ToArgument, ToConstructor, ToNothing, term_places, args_places}
 use Rattle.lowering.specs.Lower as lower
 use Rattle.tree_places.specs.PlainExpr.{PlainLexeme, PlainExpr, PlainExprs}
 use Rattle.tree_places.specs.PlainExpr as e
 use Rattle.name_rules.specs.declared.note.Note.{Note}
 use Rattle.name_rules.specs.declared.note.Note.TheVariants as note
-use Rattle.name_rules.specs.declared.uses.Use.{Use}
 use Rattle.name_rules.specs.Types.{Name, Types, is_known_name, field_in}
 use Rattle.name_rules.specs.Scopes.{Scope, Meaning, IsVariable, IsField, IsHidden, IsFree}
 use Rattle.name_rules.specs.Places as asked
-use Rattle.expression_binding.specs.Stamps.{used, restamped, stamp_from, spoilt_stamp}
+use Rattle.expression_binding.specs.Stamps.{restamped, stamp_from, spoilt_stamp}
 use Rattle.expression_binding.specs.Fields.{NamedField, face_field, named_field, field_named}
 use Rattle.expression_binding.specs.Methods.{NamedMethod, method_in, method_named, method_params, method_notes, made_by, made_notes, is_made, maker_params}
 use Rattle.expression_binding.specs.Before.{Before, OnType, OnValue, class_before}
-use Rattle.expression_binding.specs.Bound.{Ground, grounded, Bound, Bounds, found_at, finding_if, spoilt_if, fit, fit_term, is_paren, before_others, argument_place, count, this_at, meant, meaning_of, Based, type_word, before_by, before, field_made, selected, own_called, called_on, call_made, call_notes, newly_made, left_place, right_place, right_notes, term_on_two, raw, raw_all}
-use Rattle.expression_binding.specs.Laws.{IsTold, IsAsked}
+use Rattle.expression_binding.specs.Bound.{Ground, grounded, Bound, Bounds, found_at, finding_if, spoilt_if, fit, fit_term, is_paren, argument_place, count, this_at, meant, meaning_of, Based, type_word, before_by, before, field_made, selected, own_called, called_on, call_made, call_notes, newly_made, left_place, right_place, right_notes, term_on_two, raw, raw_all}
+use Rattle.expression_binding.specs.Laws.{IsTold}
 use Rattle.binding_laws.proofs.Told.{told-front, told-back}
 use Rattle.binding_laws.proofs.AskedTypes.{IsAskedName, before-asked}
 
@@ -330,6 +327,7 @@ module _ (types : Types) (class : Name) (none : types (codes "String") ≡ None)
 
   mutual
     unfolding raw
+
     pub raw-covers : (x : PlainExpr) → TermEach (IsCovered class (raw ground scope x).notes) (raw ground scope x).term
     raw-covers (e.Int w) = tt
     raw-covers (e.Str w) = tt
@@ -362,16 +360,18 @@ module _ (types : Types) (class : Name) (none : types (codes "String") ≡ None)
         let b = raw ground scope r in
         let p = right_place op (stamp_of a.term).ty in
         let told = right_notes types op a.term b.term in
-        on_two-each (IsCovered class (a.notes ++ (b.notes ++ told))) op _ a.term (fit_term types p (is_paren r) b.term)
-        (term-front class a.notes (b.notes ++ told) a.term (fit-covers types class (left_place op) (is_paren l) (raw ground scope l) (raw-covers l)),
-        term-back class a.notes (b.notes ++ told) (fit_term types p (is_paren r) b.term) (fit-covers types class p (is_paren r) b (raw-covers r)))
+        on_two-each (IsCovered class (a.notes ++ (b.notes ++ told))) op _ a.term (fit_term types p (is_paren r) b.term) (
+          term-front class a.notes (b.notes ++ told) a.term (fit-covers types class (left_place op) (is_paren l) (raw ground scope l) (raw-covers l)),
+          term-back class a.notes (b.notes ++ told) (fit_term types p (is_paren r) b.term) (fit-covers types class p (is_paren r) b (raw-covers r)),
+        )
 
     pub raw_all-covers : (params : List ParamFace) (xs : PlainExprs) → TermsEach (IsCovered class (raw_all ground scope params xs).notes) (terms (raw_all ground scope params xs).terms)
     raw_all-covers params e.no_exprs = tt
     raw_all-covers params (e.expr x xs) =
-        let a = fit types (argument_place params) (is_paren x) (raw ground scope x) in
-        (term-front class a.notes _ a.term (fit-covers types class (argument_place params) (is_paren x) (raw ground scope x) (raw-covers x)),
-        terms-back class a.notes _ (terms (raw_all ground scope (drop 1 params) xs).terms) (raw_all-covers (drop 1 params) xs))
+        let a = fit types (argument_place params) (is_paren x) (raw ground scope x) in (
+          term-front class a.notes _ a.term (fit-covers types class (argument_place params) (is_paren x) (raw ground scope x) (raw-covers x)),
+          terms-back class a.notes _ (terms (raw_all ground scope (drop 1 params) xs).terms) (raw_all-covers (drop 1 params) xs),
+        )
 
   pub fitted-covers : (p : asked.Place) (x : PlainExpr) → TermEach (IsCovered class (fit types p (is_paren x) (raw ground scope x)).notes) (fit types p (is_paren x) (raw ground scope x)).term
   fitted-covers p x = fit-covers types class p (is_paren x) (raw ground scope x) (raw-covers x)

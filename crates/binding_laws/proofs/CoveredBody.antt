@@ -1,5 +1,5 @@
 -- Each field, method, constructor and type that stands in a bound body is told by its notes.
-use Rattle.std.proofs.Common.{◌≡◌, ℕ, suc, Bool, true, false, if◌then◌else◌, List, [], ◌∷◌, ◌++◌, inl, inr, refl, codes, Option, Some, None}
+use Rattle.std.proofs.Common.{◌≡◌, ℕ, suc, Bool, true, false, if◌then◌else◌, [], ◌++◌, inl, refl, codes, Option, Some, None}
 use Rattle.class_faces.specs.declared.face.FaceTy.{FaceTy}
 use Rattle.class_faces.specs.declared.face.FaceTy.TheVariants as face
 use Rattle.core_model.specs.declared.instr.Op.{Op}
@@ -11,10 +11,8 @@ use Rattle.tree_places.specs.PlainExpr.{PlainExpr}
 use Rattle.tree_places.specs.PlainStmt.{PlainTy, PlainAction, PlainLocal, PlainFirst, PlainMonitor, PlainStmt, PlainStmts}
 use Rattle.tree_places.specs.PlainStmt as p
 use Rattle.bound_tree.specs.Tree.{Term, stamp_of}
-use Rattle.bound_tree.specs.Tree as t
 use Rattle.bound_tree.specs.Reading as reading
 use Rattle.bound_tree.specs.Places.{What}
-use Rattle.name_rules.specs.declared.note.Note.{Note}
 use Rattle.name_rules.specs.Types.{Name, Types}
 use Rattle.name_rules.specs.Scopes.{Scope}
 use Rattle.name_rules.specs.Places.{Place, Anywhere, Of, Locked, Started}
@@ -23,7 +21,7 @@ use Rattle.expression_binding.specs.Bound.{Ground, grounded, Bound, fitted}
 use Rattle.expression_binding.specs.Laws.{IsTold}
 use Rattle.statement_binding.specs.declared.locals.Locals.{Locals}
 use Rattle.statement_binding.specs.DeclaredTypes.{declared, declared_notes}
-use Rattle.statement_binding.specs.Done.{Done, DoneAll, one_done, before_others, block}
+use Rattle.statement_binding.specs.Done.{Done, DoneAll, one_done, before_others}
 use Rattle.statement_binding.specs.Locals.{local_type, initializer, name_found, declaration}
 use Rattle.statement_binding.specs.Finals.{Written, blank_target, is_first_write}
 use Rattle.statement_binding.specs.Writes.{assigned_place, is_forbidden, target_if, write_notes, assigned, set, compound, changed, int_value, one, stepped, step_op, by_sign, action, top_set, by_top_sign, top_action}
@@ -57,22 +55,25 @@ module _ (class : Name) where
 
   assigned-covers : (forbidden : Bool) (to v : Bound) → IsTerm class to → IsTerm class v → IsDone class (assigned forbidden to v)
   assigned-covers forbidden to v h k =
-      let found = write_notes forbidden to.term in let more = v.notes ++ found in
-      (target-each (IsCovered class (to.notes ++ more)) forbidden to.term (term-front class to.notes more to.term h),
-      term-back class to.notes more v.term (term-front class v.notes found v.term k))
+      let found = write_notes forbidden to.term in let more = v.notes ++ found in (
+        target-each (IsCovered class (to.notes ++ more)) forbidden to.term (term-front class to.notes more to.term h),
+        term-back class to.notes more v.term (term-front class v.notes found v.term k),
+      )
 
   compound-covers : (forbidden : Bool) (op : Op) (to v : Bound) → IsTerm class to → IsTerm class v → IsDone class (compound forbidden op to v)
   compound-covers forbidden op to v h k =
-      let found = write_notes forbidden to.term in let more = v.notes ++ found in
-      (target-each (IsCovered class (to.notes ++ more)) forbidden to.term (term-front class to.notes more to.term h),
-      term-back class to.notes more v.term (term-front class v.notes found v.term k))
+      let found = write_notes forbidden to.term in let more = v.notes ++ found in (
+        target-each (IsCovered class (to.notes ++ more)) forbidden to.term (term-front class to.notes more to.term h),
+        term-back class to.notes more v.term (term-front class v.notes found v.term k),
+      )
 
   chosen-covers : (test : Bound) (does rest : Done) → IsTerm class test → IsDone class does → IsDone class rest → IsDone class (chosen test does rest)
   chosen-covers test does rest h k l =
-      let more = does.notes ++ rest.notes in
-      (term-front class test.notes more test.term h,
-      statement-back class test.notes more does.made (statement-front class does.notes rest.notes does.made k),
-      statement-back class test.notes more rest.made (statement-back class does.notes rest.notes rest.made l))
+      let more = does.notes ++ rest.notes in (
+        term-front class test.notes more test.term h,
+        statement-back class test.notes more does.made (statement-front class does.notes rest.notes does.made k),
+        statement-back class test.notes more rest.made (statement-back class does.notes rest.notes rest.made l),
+      )
 
   repeated-covers : (test : Bound) (does : Done) → IsTerm class test → IsDone class does → IsDone class (repeated test does)
   repeated-covers test does h k = (term-front class test.notes does.notes test.term h, statement-back class test.notes does.notes does.made k)
@@ -82,11 +83,17 @@ module _ (class : Name) where
   looped-covers start test does last h k l m =
       let inner = does.notes ++ last.notes in let more = test.notes ++ inner in let all = start.notes ++ more in
       statements-both (IsCovered class all) (IsTold all) start.made _
-      (statements-front class start.notes more (reading.statements start.made) h)
-      ((term-back class start.notes more test.term (term-front class test.notes inner test.term k),
-      (statement-back class start.notes more does.made (statement-back class test.notes inner does.made (statement-front class does.notes last.notes does.made l)),
-      statements-back class start.notes more (reading.statements last.made)
-      (statements-back class test.notes inner (reading.statements last.made) (statements-back class does.notes last.notes (reading.statements last.made) m)))), tt)
+      (statements-front class start.notes more (reading.statements start.made) h) (
+        (
+          term-back class start.notes more test.term (term-front class test.notes inner test.term k),
+          (
+            statement-back class start.notes more does.made (statement-back class test.notes inner does.made (statement-front class does.notes last.notes does.made l)),
+            statements-back class start.notes more (reading.statements last.made)
+                (statements-back class test.notes inner (reading.statements last.made) (statements-back class does.notes last.notes (reading.statements last.made) m)),
+          ),
+        ),
+        tt,
+      )
 
   one-covers : (d : Done) → IsDone class d → AreDone class (one_done d)
   one-covers d h = (h, tt)
@@ -106,9 +113,10 @@ module _ (types : Types) (class : Name) (none : types (codes "String") ≡ None)
   declaration-covers ls l =
       let head = declared_notes types l.ty in
       let v = initializer ground ls.scope l in
-      let found = name_found ls.scope l in
-      (value-front head (v.notes ++ found) (type_of (local_type l)) (type-told types l.ty),
-      term-back class head (v.notes ++ found) v.term (term-front class v.notes found v.term (fits ls.scope (Of (local_type l)) l.value)))
+      let found = name_found ls.scope l in (
+        value-front head (v.notes ++ found) (type_of (local_type l)) (type-told types l.ty),
+        term-back class head (v.notes ++ found) v.term (term-front class v.notes found v.term (fits ls.scope (Of (local_type l)) l.value)),
+      )
 
   -- ---- actions
 
@@ -186,6 +194,7 @@ module _ (types : Types) (class : Name) (none : types (codes "String") ≡ None)
 
   mutual
     unfolding statement
+
     statement-covers : (result : Option FaceTy) (ls : Locals) (s : PlainStmt) → IsDone class (statement ground result ls s)
     statement-covers result ls (p.Block opening items closing) = statements-covers result ls items
     statement-covers result ls (p.Local l at) = declaration-covers ls l

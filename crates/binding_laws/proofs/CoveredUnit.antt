@@ -1,5 +1,5 @@
 -- Each field, method, constructor and type that stands in a bound unit is told by its notes.
-use Rattle.std.proofs.Common.{◌≡◌, refl, ℕ, suc, ◌+◌, true, not, List, [], ◌∷◌, ◌++◌, inl, inr, map, length, codes, Option, Some, None}
+use Rattle.std.proofs.Common.{◌≡◌, refl, ℕ, suc, ◌+◌, true, not, List, [], ◌∷◌, ◌++◌, inl, map, length, codes, Option, Some, None}
 use Rattle.std.specs.List.{flat_map}
 use Rattle.desk_base.specs.declared.span.Span.{Span}
 use Rattle.java_tree.specs.declared.file.ClassTree.{ClassTree}
@@ -100,12 +100,13 @@ module _ (faces : Faces) (number : Span → ℕ) (class : Name) (none : types_sh
       let takes = params_notes types number first [] c.params in
       let head = head_notes faces number c in
       let done = body_done faces number class c in
-      let all = code_notes faces number class c in
-      (every-more (IsTold takes) (IsTold all) (λ n h. told-front head done.notes n (told-back gives takes n h)) (flat_map variable_names (map (variable_of number) c.params))
-      (params-told types number first [] c.params),
-      result-more (IsTold gives) (IsTold all) (λ n h. told-front head done.notes n (told-front gives takes n h)) (result_type c.result) (result-told types number c.result),
-      statement-back class head done.notes done.made
-      (body-covers types class none c.is_static (head_of number c) (params_scope first [] c.params) (first + length c.params) (plain_block number c.block)))
+      let all = code_notes faces number class c in (
+        every-more (IsTold takes) (IsTold all) (λ n h. told-front head done.notes n (told-back gives takes n h)) (flat_map variable_names (map (variable_of number) c.params))
+            (params-told types number first [] c.params),
+        result-more (IsTold gives) (IsTold all) (λ n h. told-front head done.notes n (told-front gives takes n h)) (result_type c.result) (result-told types number c.result),
+        statement-back class head done.notes done.made
+            (body-covers types class none c.is_static (head_of number c) (params_scope first [] c.params) (first + length c.params) (plain_block number c.block)),
+      )
 
   main-covers : (m : Main) → PartEach (IsCovered class (main_done faces number class m).notes) (IsTold (main_done faces number class m).notes) (plain.Body (main_body faces number class m))
   main-covers m = (tt, tt, body-covers (types_shown faces) class none true (main_head number m) (main_scope m) 1 (plain_block number m.body))
@@ -119,9 +120,10 @@ module _ (faces : Faces) (number : Span → ℕ) (class : Name) (none : types_sh
   sig-covers s =
       let types = types_shown faces in
       let gives = result_notes types number s.result in
-      let takes = params_notes types number 1 [] s.params in
-      (every-more (IsTold takes) (IsTold (gives ++ takes)) (told-back gives takes) (flat_map variable_names (map (variable_of number) s.params)) (params-told types number 1 [] s.params),
-      result-more (IsTold gives) (IsTold (gives ++ takes)) (told-front gives takes) (result_type s.result) (result-told types number s.result))
+      let takes = params_notes types number 1 [] s.params in (
+        every-more (IsTold takes) (IsTold (gives ++ takes)) (told-back gives takes) (flat_map variable_names (map (variable_of number) s.params)) (params-told types number 1 [] s.params),
+        result-more (IsTold gives) (IsTold (gives ++ takes)) (told-front gives takes) (result_type s.result) (result-told types number s.result),
+      )
 
   part-covers : (m : MemberTree) → PartEach (IsCovered class (part_made faces number class m).notes) (IsTold (part_made faces number class m).notes) (part_made faces number class m).part
   part-covers (member.Field f) = field-covers f
@@ -144,9 +146,10 @@ words-told : (faces : Faces) (number : Span → ℕ) (class : Name) (before : Li
 words-told faces number class before [] = tt
 words-told faces number class before (w ∷ ws) =
     let own = implemented_notes faces class (not (is_among before w.text)) w.text (suc (number w.span)) in
-    let rest = implements_after faces number class (before ++ w.text ∷ []) ws in
-    (told-front own rest w.text (inl refl),
-    every-more (IsTold rest) (IsTold (own ++ rest)) (told-back own rest) (map word_name (map (word_of number) ws)) (words-told faces number class (before ++ w.text ∷ []) ws))
+    let rest = implements_after faces number class (before ++ w.text ∷ []) ws in (
+      told-front own rest w.text (inl refl),
+      every-more (IsTold rest) (IsTold (own ++ rest)) (told-back own rest) (map word_name (map (word_of number) ws)) (words-told faces number class (before ++ w.text ∷ []) ws),
+    )
 
 -- ---- units
 

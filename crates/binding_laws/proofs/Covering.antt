@@ -1,8 +1,6 @@
 -- The consulted names of a bound unit cover whatever an analysis may ask of it.
 use Rattle.std.proofs.Common.{◌≡◌, sym, ap, subst, ℕ, Bool, true, false, List, [], ◌∷◌, ◌++◌, inl, inr, codes, Option, Some, None}
 use Rattle.std.specs.List.{flat_map, Contains}
-use Rattle.java_tree.specs.declared.file.ClassTree.{ClassTree}
-use Rattle.java_tree.specs.declared.member.MemberTree.{MemberTree}
 use Rattle.tree_places.specs.Numbers.{number_of}
 use Rattle.bound_tree.specs.declared.unit.BoundTree.{BoundTree}
 use Rattle.bound_tree.specs.declared.unit.Part.{Part}
@@ -12,25 +10,23 @@ use Rattle.bound_tree.specs.Places.{Place, What, Reads, Writes, Calls, Makes, St
 use Rattle.bound_tree.specs.Reading.{statement_of}
 use Rattle.lowering.specs.Lower as lower
 use Rattle.promise_scrub.specs.declared.surface.Surface.{Surface}
-use Rattle.views.specs.Face.{Seen, face, face_of, assumptions_of, declared_or, surface_named}
+use Rattle.views.specs.Face.{Seen, face, face_of, assumptions_of, declared_or}
 use Rattle.std.specs.Option.{option_map}
-use Rattle.views.specs.Looks.{interfaces_in, member_key}
+use Rattle.views.specs.Looks.{interfaces_in}
 use Rattle.name_rules.specs.declared.note.Note.{Note}
 use Rattle.name_rules.specs.declared.note.Note.TheVariants as note
 use Rattle.expression_binding.specs.Laws.{IsTold}
 use Rattle.bound_unit.specs.Names.{Name, Faces, member_names}
 use Rattle.bound_unit.specs.Implemented.{implemented}
 use Rattle.bound_unit.specs.Asked.{value_names_if, variable_names, statement_names, part_names, called_names, what_names, place_names, above_names, asked, Covers}
-use Rattle.bound_unit.specs.Made.{made}
 use Rattle.bound_unit.specs.UnitFacts.{UnitFacts}
 use Rattle.unit_rules.specs.Consulted.{told_names, all_names, consulted}
-use Rattle.unit_rules.specs.Faults.{faults}
 use Rattle.unit_rules.specs.Shown.{type_shown, types_shown}
 use Rattle.binder.specs.Trees.{PlainTree, part_as, tree_as}
-use Rattle.binder.specs.Units.{IsBound, bound_under, tokens_in}
+use Rattle.binder.specs.Units.{bound_under, tokens_in}
 use Rattle.binding_laws.specs.Laws.{DeclaresNoString, BindingCovers}
 use Rattle.binding_laws.proofs.Covered.{IsCalled, IsOwnOrTold, IsCovered, Each}
-use Rattle.binding_laws.proofs.EachStatement.{Every, every-both, every-front, every-back, value-every, StatementEach, statement-every, statement-places, under-places}
+use Rattle.binding_laws.proofs.EachStatement.{Every, every-both, every-front, every-back, value-every, statement-every, statement-places, under-places}
 use Rattle.binding_laws.proofs.InOrder.{every-contains, in-order}
 use Rattle.binding_laws.proofs.CoveredUnit.{ResultEach, PartEach, TreeEach, bound-covers}
 
@@ -122,14 +118,15 @@ asked-every N faces key tree notes each all =
     let told = flat_map (told_names faces) notes in
     let behind = member_names (faces tree.class) key ++ flat_map (above_names faces) (implemented faces key tree) in
     let later = every-back N shown (told ++ behind) all.1 in
-    let tells = every-front N told behind later in
-    (all.0,
-    every-both N shown _ (every-front N shown (told ++ behind) all.1)
-    (every-both N (part_names tree.part) _
-    (every-told N faces notes tells (part_names tree.part) (part-every (IsCovered tree.class notes) (IsTold notes) tree.part each))
-    (every-both N (flat_map (place_names faces) (places_of tree)) behind
-    (places-named N faces tree.class all.0 notes tells (places_of tree) (part-places tree.class notes tree.part each))
-    (every-back N told behind later))))
+    let tells = every-front N told behind later in (
+      all.0,
+      every-both N shown _ (every-front N shown (told ++ behind) all.1)
+          (every-both N (part_names tree.part) _
+          (every-told N faces notes tells (part_names tree.part) (part-every (IsCovered tree.class notes) (IsTold notes) tree.part each))
+          (every-both N (flat_map (place_names faces) (places_of tree)) behind
+          (places-named N faces tree.class all.0 notes tells (places_of tree) (part-places tree.class notes tree.part each))
+          (every-back N told behind later))),
+    )
 
 -- ---- bound units
 

@@ -1,6 +1,6 @@
 -- What stands in a bound statement: the fields that are read and written, the members that are called or
 -- made, and the types.
-use Rattle.std.proofs.Common.{ℕ, List, [], ◌∷◌, ◌++◌, inl, inr, Option, Some, None}
+use Rattle.std.proofs.Common.{List, [], ◌∷◌, ◌++◌}
 use Rattle.bound_tree.specs.declared.name.FieldName.{FieldName}
 use Rattle.bound_tree.specs.declared.name.ValueType.{ValueType}
 use Rattle.bound_tree.specs.declared.name.ValueType.TheVariants as value
@@ -11,7 +11,7 @@ use Rattle.bound_tree.specs.Places.{Place, What, Goal, Owner, Frame, Reads, Writ
 use Rattle.name_rules.specs.declared.note.Note.{Note}
 use Rattle.name_rules.specs.Types.{Name}
 use Rattle.expression_binding.specs.Laws.{IsTold}
-use Rattle.bound_unit.specs.Asked.{value_names, value_names_if, statement_names, statements_names}
+use Rattle.bound_unit.specs.Asked.{value_names, statement_names, statements_names}
 use Rattle.binding_laws.proofs.Told.{told-front, told-back}
 use Rattle.binding_laws.proofs.Covered.{TermEach, IsCovered, term-more, covered-front, covered-back, Each, each-both, term-places}
 

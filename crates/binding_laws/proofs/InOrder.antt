@@ -1,12 +1,11 @@
 -- Names that are put in order, each once, are all there.
-use Rattle.std.proofs.Common.{◌≡◌, refl, sym, ap, ◌∙◌, subst, ℕ, zero, suc, ◌<◌, Bool, true, List, [], ◌∷◌, arith}
+use Rattle.std.proofs.Common.{◌≡◌, refl, sym, ap, ◌∙◌, subst, zero, suc, List, [], ◌∷◌, arith}
 use Rattle.std.specs.List.{Contains}
 use Rattle.std.specs.Ordering.{nat_cmp, match_ordering, is_eq}
 use Rattle.std.specs.declared.cmp.Ordering.{Ordering}
 use Rattle.std.specs.declared.cmp.Ordering.TheVariants.{Less, Equal, Greater}
 use Rattle.std.specs.Cmp.Lexicographic.{slice_cmp}
 use Rattle.std.specs.BTreeSet.{insert_key}
-use Rattle.std.specs.Str.{bytes_eq}
 use Rattle.std.proofs.lemmas.Map.Text.{is_eq-slice_cmp}
 use Rattle.std.proofs.lemmas.Slice.Eq.{bytes_eq-Decides}
 use Rattle.name_rules.specs.Types.{Name}
@@ -54,9 +53,10 @@ inserted-old (k ∷ ks) n = go (slice_cmp nat_cmp n k) (inserted-old ks n)
 put-each : (ns kept : List Name) → Every (Contains (put_among ns kept)) ns
 put-each [] kept = tt
 put-each (n ∷ ns) kept =
-    let before = put_among ns kept in
-    (inserted-new before n,
-    every-more (Contains before) (Contains (inserted before n)) (λ m h. every-contains (Contains (inserted before n)) before m (inserted-old before n) h) ns (put-each ns kept))
+    let before = put_among ns kept in (
+      inserted-new before n,
+      every-more (Contains before) (Contains (inserted before n)) (λ m h. every-contains (Contains (inserted before n)) before m (inserted-old before n) h) ns (put-each ns kept),
+    )
 
 pub in-order : (ns : List Name) → Every (Contains (each_in_order ns)) ns
 in-order ns = put-each ns []

@@ -1,5 +1,5 @@
 -- Where the promise annotations of a unit that is moved begin, and what they are.
-use Rattle.std.proofs.Common.{◌≡◌, refl, ℕ, suc, ◌==◌, if◌then◌else◌, List, [], ◌∷◌, ◌++◌, map, Option, Some, None, ap, ap₂, ◌∙◌}
+use Rattle.std.proofs.Common.{◌≡◌, refl, ℕ, ◌==◌, if◌then◌else◌, List, [], ◌∷◌, ◌++◌, map, Option, Some, None, ap, ap₂, ◌∙◌}
 use Rattle.std.specs.List.{flat_map}
 use Rattle.std.specs.Option.{option_map}
 use Rattle.std.specs.Str.{bytes_eq}
@@ -14,7 +14,7 @@ use Rattle.java_tree.specs.declared.member.MemberTree.{MemberTree}
 use Rattle.java_tree.specs.declared.member.MemberTree.TheVariants as member
 use Rattle.class_faces.specs.Keys.{text_of}
 use Rattle.tree_places.specs.MovedAnnot.{moved_annot_layer, moved_inner, moved_annot}
-use Rattle.tree_places.specs.MovedMember.{moved_mod, moved_mods, moved_param, moved_params, moved_member}
+use Rattle.tree_places.specs.MovedMember.{moved_mod, moved_mods, moved_params, moved_member}
 use Rattle.promise_grammar.specs.declared.kind.PromiseKind.{PromiseKind}
 use Rattle.promise_grammar.specs.Kind.{kind_named, kind_text}
 use Rattle.promise_marks.specs.declared.mark.Mark.{Mark}

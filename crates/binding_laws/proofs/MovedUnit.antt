@@ -1,10 +1,9 @@
 -- A unit that is moved is bound to what it is bound to with the numbers of the places that it is moved to.
 use Rattle.std.proofs.Common.{◌≡◌, refl, ℕ, suc, ◌+◌, Bool, true, false, not, List, [], ◌∷◌, ◌++◌, map, length, Option, Some, None, ap, ap₂, ◌∙◌}
-use Rattle.std.specs.List.{flat_map, list_any}
+use Rattle.std.specs.List.{flat_map}
 use Rattle.std.specs.Option.{option_map}
 use Rattle.std.specs.Str.{bytes_eq}
 use Rattle.desk_base.specs.declared.span.Span.{Span}
-use Rattle.java_tree.specs.declared.file.ClassTree.{ClassTree}
 use Rattle.java_tree.specs.declared.member.Field.{Field as JavaField}
 use Rattle.java_tree.specs.declared.member.Init.{Init}
 use Rattle.java_tree.specs.declared.member.Init.TheVariants as init
@@ -22,38 +21,32 @@ use Rattle.java_tree.specs.declared.member.Ty.TheVariants as ty
 use Rattle.java_tree.specs.declared.token.Lexeme.{Lexeme}
 use Rattle.java_heads.specs.declared.header.Header.{Header}
 use Rattle.class_faces.specs.declared.face.FaceTy.{FaceTy}
-use Rattle.class_faces.specs.Faces.{face_ty, is_static}
+use Rattle.class_faces.specs.Faces.{face_ty}
 use Rattle.class_faces.specs.Keys.{key_name, member_key}
 use Rattle.bound_tree.specs.declared.name.ValueType.{ValueType}
 use Rattle.bound_tree.specs.declared.unit.Initial.{Initial}
 use Rattle.bound_tree.specs.declared.unit.Variable.{Variable}
-use Rattle.bound_tree.specs.declared.unit.Part.TheVariants as part
-use Rattle.bound_tree.specs.declared.unit.BoundTree.{BoundTree}
 use Rattle.bound_tree.specs.declared.unit.Word.{Word}
 use Rattle.result_records.specs.declared.code.FindingCode.TheVariants as code
 use Rattle.tree_places.specs.Moved.{moved_lexemes, moved_ty}
 use Rattle.tree_places.specs.MovedStmt.{moved_block}
-use Rattle.tree_places.specs.MovedMember.{moved_mod, moved_mods, moved_param, moved_params, moved_init, moved_field, moved_method, moved_sig, moved_ctor, moved_main, moved_member, moved_header}
+use Rattle.tree_places.specs.MovedMember.{moved_mod, moved_mods, moved_param, moved_params, moved_init, moved_field, moved_method, moved_sig, moved_main, moved_member, moved_header}
 use Rattle.tree_places.specs.Plain.{plain_block, plain_ty}
-use Rattle.tree_places.specs.PlainStmt.{PlainStmt, PlainTy}
+use Rattle.tree_places.specs.PlainStmt.{PlainStmt}
 use Rattle.tree_places.proofs.PlainStmt.{plain-moved_block}
 use Rattle.promise_marks.specs.declared.mark.Mark.{Mark}
-use Rattle.scrub_rules.specs.declared.place.Site.{Site}
 use Rattle.scrub_rules.specs.Place.{header_site}
 use Rattle.views.specs.Looks.{standing_at}
 use Rattle.name_rules.specs.declared.note.Note.{Note}
 use Rattle.name_rules.specs.declared.scope.Entry.{Entry}
 use Rattle.name_rules.specs.Types.{Name, Types}
-use Rattle.name_rules.specs.Types as rules
 use Rattle.name_rules.specs.Notes.{found_if}
-use Rattle.name_rules.specs.Places.{Of, misplaced}
 use Rattle.name_rules.specs.Scopes.{Scope, in_scope, with_entry}
-use Rattle.expression_binding.specs.Bound.{Ground}
 use Rattle.expression_binding.specs.Stamps.{type_of}
 use Rattle.statement_binding.specs.Bodies.{Head, body}
 use Rattle.statement_binding.specs.DeclaredTypes.{declared_notes}
 use Rattle.statement_binding.specs.Done.{Done}
-use Rattle.statement_binding.specs.Initials.{initial, written, type_of_init, place_of_init, finding_at, initial_notes}
+use Rattle.statement_binding.specs.Initials.{initial, written, initial_notes}
 use Rattle.bound_unit.specs.Names.{Faces}
 use Rattle.bound_unit.specs.Implemented.{is_among}
 use Rattle.unit_rules.specs.Annotations.{mods_begin, member_begins}
@@ -62,8 +55,8 @@ use Rattle.unit_rules.specs.Given.{Written, allowed, begun, each_at, member_anno
 use Rattle.unit_rules.specs.Headers.{word_of}
 use Rattle.unit_rules.specs.Implements.{implemented_notes, implements_after}
 use Rattle.unit_rules.specs.Shown.{types_shown}
-use Rattle.binder.specs.Params.{value_type, result_type, result_face, result_notes, variable_of, param_entry, param_notes, params_notes, params_scope}
-use Rattle.binder.specs.Members.{MadePart, Code, is_synchronized_word, is_synchronized, method_code, constructor_code, first_param, ground_of, head_of, body_done, head_notes, code_made, main_scope, main_head, main_done, main_part, field_made, sig_made, part_made, repeated_notes, member_tree, member_notes}
+use Rattle.binder.specs.Params.{value_type, result_type, result_face, result_notes, variable_of, param_entry, params_notes, params_scope}
+use Rattle.binder.specs.Members.{MadePart, Code, is_synchronized_word, is_synchronized, method_code, constructor_code, first_param, ground_of, head_of, body_done, head_notes, code_made, main_scope, main_head, main_done, field_made, sig_made, part_made, repeated_notes, member_tree, member_notes}
 use Rattle.binder.specs.Trees.{PlainBody, PlainPart, PlainTree, tree_as}
 use Rattle.binder.specs.Trees as plain
 use Rattle.binder.specs.Bound.{Bound}

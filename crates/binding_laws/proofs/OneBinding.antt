@@ -1,5 +1,5 @@
 -- The law of binding: a unit is bound to what its tokens and the names that it consults say.
-use Rattle.std.proofs.Common.{◌≡◌, refl, sym, ℕ, zero, suc, ◌-◌, List, [], ◌∷◌, ◌++◌, codes, if◌then◌else◌, Option, Some, None, ap, ap₂, ◌∙◌, subst}
+use Rattle.std.proofs.Common.{◌≡◌, refl, sym, ℕ, zero, suc, ◌-◌, List, [], ◌∷◌, codes, if◌then◌else◌, Option, Some, None, ap, ap₂, ◌∙◌, subst}
 use Rattle.std.specs.List.{flat_map, slice_get, Contains}
 use Rattle.std.specs.Option.{option_map}
 use Rattle.desk_base.specs.declared.span.Span.{Span}
@@ -35,8 +35,8 @@ use Rattle.unit_rules.specs.Consulted.{told_names, all_names, each_in_order, con
 use Rattle.unit_rules.specs.Faults.{program_key, bytes_if_any, told_fault, firsts, faults, is_assume}
 use Rattle.unit_rules.specs.Shown.{type_shown, types_shown}
 use Rattle.binder.specs.Bound.{Bound, bound}
-use Rattle.binder.specs.Trees.{PlainTree, tree_as}
-use Rattle.binder.specs.Units.{IsBound, IsBoundBy, bound_under, given_of, tokens_in}
+use Rattle.binder.specs.Trees.{PlainTree}
+use Rattle.binder.specs.Units.{IsBoundBy, bound_under, given_of, tokens_in}
 use Rattle.binder.proofs.Single.{one_tree}
 use Rattle.binding_laws.specs.Laws.{DeclaresNoString, DeclaresNoObject, AlikeUnits, HasUnit, OneBinding}
 use Rattle.binding_laws.proofs.EachStatement.{Every, every-front, every-back, every-more}
@@ -147,10 +147,11 @@ consulted-each key v w tree notes agree =
 shown-on : (key : List ℕ) (v w : Seen) (tree : BoundTree) (class : Name) (notes : List Note) → tree.class ≡ class → Every (λ (n : Name). face v n ≡ face w n) (all_names (face v) key tree notes)
     → ShownOn (face v) (face w) class notes
 shown-on key v w tree class notes own all =
-    let one : Name → Type 0 = λ n. face v n ≡ face w n in
-    (subst one own all.0,
-    told-named one (face v) notes
-    (every-front one (flat_map (told_names (face v)) notes) _ (every-back one (interfaces_in (face v tree.class)) _ all.1)))
+    let one : Name → Type 0 = λ n. face v n ≡ face w n in (
+      subst one own all.0,
+      told-named one (face v) notes
+          (every-front one (flat_map (told_names (face v)) notes) _ (every-back one (interfaces_in (face v tree.class)) _ all.1)),
+    )
 
 -- one unit under two views
 views-one : (class : ClassTree) (m : Option MemberTree) (key : List ℕ) (v w : Seen) (marks : List Mark) (u : UnitFacts) → OneBuiltIn (types_shown (face v)) (types_shown (face w))
@@ -159,9 +160,10 @@ views-one : (class : ClassTree) (m : Option MemberTree) (key : List ℕ) (v w : 
 views-one class m key v w marks u same a agree =
     let b = bound_under class m key v marks in
     let all = consulted-each key v w u.tree b.notes (subst (λ (l : List Name). Agree l v w) (ap (λ (x : UnitFacts). x.consulted) a.is) agree) in
-    let own : u.tree.class ≡ class.name.text = ap (λ (t : PlainTree). t.class) a.tree ∙ bound-class (face v) (number_of (tokens_in class m)) class m key marks in
-    (bound-one (face v) (face w) same (number_of (tokens_in class m)) class m key marks (shown-on key v w u.tree class.name.text b.notes own all),
-    ap each_in_order (all-one (face v) (face w) key u.tree b.notes all))
+    let own : u.tree.class ≡ class.name.text = ap (λ (t : PlainTree). t.class) a.tree ∙ bound-class (face v) (number_of (tokens_in class m)) class m key marks in (
+      bound-one (face v) (face w) same (number_of (tokens_in class m)) class m key marks (shown-on key v w u.tree class.name.text b.notes own all),
+      ap each_in_order (all-one (face v) (face w) key u.tree b.notes all),
+    )
 
 -- ---- the law
 

@@ -1,5 +1,5 @@
 -- Under two tables that say one thing of what a body's notes tell, it is bound to one.
-use Rattle.std.proofs.Common.{◌≡◌, refl, ℕ, suc, Bool, true, false, not, ◌&&◌, if◌then◌else◌, List, [], ◌∷◌, ◌++◌, inl, inr, Option, Some, None, ap, ap₂, ◌∙◌}
+use Rattle.std.proofs.Common.{◌≡◌, refl, ℕ, suc, Bool, true, false, not, ◌&&◌, if◌then◌else◌, List, [], ◌++◌, inl, inr, Option, Some, None, ap, ap₂, ◌∙◌}
 use Rattle.class_faces.specs.declared.face.FaceTy.{FaceTy}
 use Rattle.class_faces.specs.declared.face.FaceTy.TheVariants as face
 use Rattle.std.specs.Option.{is_none}
@@ -23,15 +23,15 @@ use Rattle.name_rules.specs.Scopes.{Scope, meaning_in}
 use Rattle.name_rules.specs.Places.{Place, Anywhere, Of, Locked, Started}
 use Rattle.expression_binding.specs.Stamps.{judged_given, type_of}
 use Rattle.expression_binding.specs.Bound.{Ground, grounded, Bound, fitted}
-use Rattle.expression_binding.specs.Laws.{IsAsked, IsAskedType, AgreeOn, AgreeAtType, AgreeAt}
+use Rattle.expression_binding.specs.Laws.{AgreeOn, AgreeAtType, AgreeAt}
 use Rattle.statement_binding.specs.declared.locals.Locals.{Locals}
 use Rattle.statement_binding.specs.DeclaredTypes.{declared, name_notes, declared_notes}
-use Rattle.statement_binding.specs.Done.{Done, DoneAll, none_done, one_done, before_others, block}
-use Rattle.statement_binding.specs.Locals.{local_type, name_found, declaration, ended}
+use Rattle.statement_binding.specs.Done.{Done, DoneAll, one_done, before_others, block}
+use Rattle.statement_binding.specs.Locals.{local_type, name_found, declaration}
 use Rattle.statement_binding.specs.Finals.{is_final, final_meaning, blank_meaning, blank_instance, name_if, is_this, blank_target, Written, is_first_write, with_written}
-use Rattle.statement_binding.specs.Writes.{assigned_place, is_forbidden, write_notes, assigned, set_onto, set, compound, changed_onto, changed, int_value, one, stepped, step_op, by_sign, performed, started, action, top_set, by_top_sign, top_action, by_set, field_written}
-use Rattle.statement_binding.specs.Heads.{condition, always, condition_if_any, chosen, repeated, first_done, behind_first, last_done, looped, Held, OnObject, OnClass, class_notes, locked_by, locked, result_place, returned}
-use Rattle.statement_binding.specs.Statements.{behind, behind_all, statement, branch, statements}
+use Rattle.statement_binding.specs.Writes.{assigned_place, is_forbidden, assigned, set_onto, set, compound, changed_onto, changed, int_value, one, stepped, step_op, by_sign, performed, started, action, top_set, by_top_sign, top_action, by_set, field_written}
+use Rattle.statement_binding.specs.Heads.{condition, condition_if_any, chosen, repeated, first_done, behind_first, last_done, looped, OnObject, OnClass, class_notes, locked_by, locked, result_place, returned}
+use Rattle.statement_binding.specs.Statements.{behind, statement, branch, statements}
 use Rattle.statement_binding.specs.Bodies.{Head, top_statement, field_set, written_behind, top_statements, items_of, items_done, end_notes, with_end, body}
 use Rattle.bound_tree.specs.Tree as t
 use Rattle.binding_laws.proofs.Told.{agree-front, agree-back}
@@ -250,6 +250,7 @@ module _ (T U : Types) (class : Name) (in_static : Bool) where
 
   mutual
     unfolding statement
+
     statement-one : (result : Option FaceTy) (ls : Locals) (s : PlainStmt) → AgreeAtGiven T U result → AgreeOn T U class (statement first result ls s).notes
         → statement first result ls s ≡ statement second result ls s
     statement-one result ls (p.Block opening items closing) h agree = ap block (statements-one result ls items h agree)

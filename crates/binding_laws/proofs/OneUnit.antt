@@ -20,22 +20,18 @@ use Rattle.class_faces.specs.Faces.{face_ty}
 use Rattle.promise_grammar.specs.declared.tree.PromiseTree.{PromiseTree, out-PromiseTree}
 use Rattle.promise_grammar.specs.declared.tree.PromiseTree.TheOpen.{PromiseTree-F}
 use Rattle.promise_marks.specs.declared.mark.Mark.{Mark}
-use Rattle.promise_scrub.specs.declared.surface.Standing.{Standing}
 use Rattle.result_records.specs.declared.code.FindingCode.{FindingCode}
 use Rattle.result_records.specs.declared.code.FindingCode.TheVariants as code
-use Rattle.bound_tree.specs.declared.unit.Part.TheVariants as part
-use Rattle.bound_tree.specs.declared.unit.BoundTree.{BoundTree}
 use Rattle.tree_places.specs.Plain.{plain_block, plain_ty}
 use Rattle.views.specs.Face.{Face}
 use Rattle.views.specs.Looks.{member_in, members_in, standing_at}
 use Rattle.name_rules.specs.declared.note.Note.{Note}
 use Rattle.name_rules.specs.declared.note.Note.TheVariants as note
 use Rattle.name_rules.specs.Types.{Name, Types, is_known_name, is_interface}
-use Rattle.name_rules.specs.Types as rules
 use Rattle.name_rules.specs.Notes.{found_if}
-use Rattle.name_rules.specs.Places.{Of, misplaced}
+use Rattle.name_rules.specs.Places.{Of}
 use Rattle.name_rules.specs.Scopes.{Scope, in_scope, with_entry}
-use Rattle.expression_binding.specs.Laws.{IsTold, IsAsked, AgreeOn, AgreeAtType}
+use Rattle.expression_binding.specs.Laws.{IsTold, AgreeOn, AgreeAtType}
 use Rattle.statement_binding.specs.DeclaredTypes.{declared, declared_notes}
 use Rattle.statement_binding.specs.Done.{Done}
 use Rattle.statement_binding.specs.Initials.{initial, type_of_init, place_of_init, finding_at, initial_notes}
@@ -48,7 +44,7 @@ use Rattle.unit_rules.specs.Headers.{word_of, header_annotations}
 use Rattle.unit_rules.specs.Implements.{first_key, is_first, is_method_of, bad_unless, implemented_faults, implemented_notes, implements_after}
 use Rattle.unit_rules.specs.Shown.{type_shown, types_shown}
 use Rattle.binder.specs.Params.{value_type, result_type, result_face, result_notes, variable_of, param_entry, param_notes, params_notes, params_scope}
-use Rattle.binder.specs.Members.{MadePart, Code, method_code, constructor_code, first_param, head_of, body_done, head_notes, code_made, code_notes, is_synchronized, main_scope, main_head, main_done, field_made, sig_made, part_made, repeated_notes}
+use Rattle.binder.specs.Members.{MadePart, Code, method_code, constructor_code, first_param, head_of, body_done, code_made, code_notes, is_synchronized, main_scope, main_head, main_done, field_made, sig_made, part_made, repeated_notes}
 use Rattle.binder.specs.Trees as plain
 use Rattle.binder.specs.Bound.{Bound, bound}
 use Rattle.binding_laws.proofs.Told.{told-front, told-back, agree-front, agree-back}

@@ -4,6 +4,4 @@
 
 mod laws;
 
-pub use laws::{
-    consulted_names_cover, expressions_rest_on_what_they_tell, units_are_bound_alike,
-};
+pub use laws::{consulted_names_cover, expressions_rest_on_what_they_tell, units_are_bound_alike};
