@@ -19,7 +19,6 @@ use Rattle.name_rules.specs.Places.{Place, Anywhere, Of, Locked, Started}
 use Rattle.expression_binding.specs.Stamps.{type_of, spoilt_stamp}
 use Rattle.expression_binding.specs.Bound.{Ground, grounded, Bound, fitted}
 use Rattle.expression_binding.specs.Laws.{IsTold}
-use Rattle.statement_binding.specs.declared.locals.Locals.{Locals}
 use Rattle.statement_binding.specs.DeclaredTypes.{declared, declared_notes}
 use Rattle.statement_binding.specs.Done.{Done, DoneAll, one_done, before_others}
 use Rattle.statement_binding.specs.Locals.{local_type, initializer, name_found, declaration}
@@ -109,7 +108,7 @@ module _ (types : Types) (class : Name) (none : types (codes "String") ≡ None)
   fits : (scope : Scope) (at : Place) (x : PlainExpr) → IsTerm class (fitted ground scope at x)
   fits scope at x = fitted-covers types class none in_static scope at x
 
-  declaration-covers : (ls : Locals) (l : PlainLocal) → IsDone class (declaration ground ls l)
+  declaration-covers : (ls : _) (l : PlainLocal) → IsDone class (declaration ground ls l)
   declaration-covers ls l =
       let head = declared_notes types l.ty in
       let v = initializer ground ls.scope l in
@@ -169,7 +168,7 @@ module _ (types : Types) (class : Name) (none : types (codes "String") ≡ None)
   condition_if-covers scope at None = tt
   condition_if-covers scope at (Some test) = fits scope (Of face.Bool) test
 
-  first_done-covers : (ls : Locals) (f : PlainFirst) → AreDone class (first_done ground ls f)
+  first_done-covers : (ls : _) (f : PlainFirst) → AreDone class (first_done ground ls f)
   first_done-covers ls p.Nothing = tt
   first_done-covers ls (p.FirstLocal l) = one-covers class (declaration ground ls l) (declaration-covers ls l)
   first_done-covers ls (p.FirstAction does) = one-covers class (action ground ls.scope does) (action-covers ls.scope does)
@@ -195,7 +194,7 @@ module _ (types : Types) (class : Name) (none : types (codes "String") ≡ None)
   mutual
     unfolding statement
 
-    statement-covers : (result : Option FaceTy) (ls : Locals) (s : PlainStmt) → IsDone class (statement ground result ls s)
+    statement-covers : (result : Option FaceTy) (ls : _) (s : PlainStmt) → IsDone class (statement ground result ls s)
     statement-covers result ls (p.Block opening items closing) = statements-covers result ls items
     statement-covers result ls (p.Local l at) = declaration-covers ls l
     statement-covers result ls (p.Empty at) = tt
@@ -212,18 +211,18 @@ module _ (types : Types) (class : Name) (none : types (codes "String") ≡ None)
     statement-covers result ls (p.Sync at held inside) = locked-covers ls.scope held (statement ground result ls inside) (statement-covers result ls inside)
     statement-covers result ls (p.Return at v end) = returned-covers result ls.scope (suc at) v
 
-    branch-covers : (result : Option FaceTy) (ls : Locals) (other : PlainStmts) → IsDone class (branch ground result ls other)
+    branch-covers : (result : Option FaceTy) (ls : _) (other : PlainStmts) → IsDone class (branch ground result ls other)
     branch-covers result ls p.no_stmts = tt
     branch-covers result ls (p.stmt s others) = statement-covers result ls s
 
-    statements-covers : (result : Option FaceTy) (ls : Locals) (items : PlainStmts) → AreDone class (statements ground result ls items)
+    statements-covers : (result : Option FaceTy) (ls : _) (items : PlainStmts) → AreDone class (statements ground result ls items)
     statements-covers result ls p.no_stmts = tt
     statements-covers result ls (p.stmt s others) =
         before-covers class (statement ground result ls s) (statements ground result (behind ls s) others) (statement-covers result ls s) (statements-covers result (behind ls s) others)
 
   -- ---- the top level of a constructor
 
-  top_statement-covers : (written : Written) (ls : Locals) (s : PlainStmt) → IsDone class (top_statement ground written ls s)
+  top_statement-covers : (written : Written) (ls : _) (s : PlainStmt) → IsDone class (top_statement ground written ls s)
   top_statement-covers written ls (p.Block opening items closing) = statement-covers None ls (p.Block opening items closing)
   top_statement-covers written ls (p.Local l at) = statement-covers None ls (p.Local l at)
   top_statement-covers written ls (p.Empty at) = statement-covers None ls (p.Empty at)
@@ -234,7 +233,7 @@ module _ (types : Types) (class : Name) (none : types (codes "String") ≡ None)
   top_statement-covers written ls (p.Sync at held inside) = statement-covers None ls (p.Sync at held inside)
   top_statement-covers written ls (p.Return at v end) = statement-covers None ls (p.Return at v end)
 
-  top_statements-covers : (written : Written) (ls : Locals) (items : PlainStmts) → AreDone class (top_statements ground written ls items)
+  top_statements-covers : (written : Written) (ls : _) (items : PlainStmts) → AreDone class (top_statements ground written ls items)
   unfolding top_statements
   top_statements-covers written ls p.no_stmts = tt
   top_statements-covers written ls (p.stmt s others) =
@@ -247,13 +246,12 @@ module _ (types : Types) (class : Name) (none : types (codes "String") ≡ None)
   either-covers true x y h k = h
   either-covers false x y h k = k
 
-  items-covers : (head : Head) (ls : Locals) (items : PlainStmts) → AreDone class (items_done ground head ls items)
+  items-covers : (head : Head) (ls : _) (items : PlainStmts) → AreDone class (items_done ground head ls items)
   items-covers head ls items =
       either-covers head.is_constructor (top_statements ground [] ls items) (statements ground head.result ls items)
       (top_statements-covers [] ls items) (statements-covers head.result ls items)
 
   pub body-covers : (head : Head) (scope : Scope) (local : ℕ) (s : PlainStmt) → IsDone class (body ground head scope local s)
   body-covers head scope local s =
-      let ls : Locals = record { scope = scope; next = local } in
-      let ds = items_done ground head ls (items_of s) in
-      statements-front class ds.notes (end_notes head s) (reading.statements ds.made) (items-covers head ls (items_of s))
+      let ds = items_done ground head (record { scope = scope; next = local }) (items_of s) in
+      statements-front class ds.notes (end_notes head s) (reading.statements ds.made) (items-covers head (record { scope = scope; next = local }) (items_of s))

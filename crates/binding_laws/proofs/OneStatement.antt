@@ -24,7 +24,6 @@ use Rattle.name_rules.specs.Places.{Place, Anywhere, Of, Locked, Started}
 use Rattle.expression_binding.specs.Stamps.{judged_given, type_of}
 use Rattle.expression_binding.specs.Bound.{Ground, grounded, Bound, fitted}
 use Rattle.expression_binding.specs.Laws.{AgreeOn, AgreeAtType, AgreeAt}
-use Rattle.statement_binding.specs.declared.locals.Locals.{Locals}
 use Rattle.statement_binding.specs.DeclaredTypes.{declared, name_notes, declared_notes}
 use Rattle.statement_binding.specs.Done.{Done, DoneAll, one_done, before_others, block}
 use Rattle.statement_binding.specs.Locals.{local_type, name_found, declaration}
@@ -75,17 +74,17 @@ module _ (T U : Types) (class : Name) (in_static : Bool) where
 
   -- ---- locals
 
-  abbrev declared_by : Locals → PlainLocal → List Note → Bound → Done
-  declared_by ls l notes v = record {
-    made = t.Declare (suc l.name.at) ls.next (type_of (local_type l)) v.term;
-    notes = notes ++ (v.notes ++ name_found ls.scope l);
+  abbrev declared_by : Scope → ℕ → PlainLocal → List Note → Bound → Done
+  declared_by scope next l notes v = record {
+    made = t.Declare (suc l.name.at) next (type_of (local_type l)) v.term;
+    notes = notes ++ (v.notes ++ name_found scope l);
   }
 
-  declaration-one : (ls : Locals) (l : PlainLocal) → AgreeOn T U class (declaration first ls l).notes → declaration first ls l ≡ declaration second ls l
+  declaration-one : (ls : _) (l : PlainLocal) → AgreeOn T U class (declaration first ls l).notes → declaration first ls l ≡ declaration second ls l
   declaration-one ls l agree =
       let head = front (declared_notes T l.ty) _ agree in
       let v = fitted first ls.scope (Of (local_type l)) l.value in
-      ap₂ (declared_by ls l) (declared-one l.ty head)
+      ap₂ (declared_by ls.scope ls.next l) (declared-one l.ty head)
       (fitted-one ls.scope (Of (local_type l)) l.value (front v.notes _ (back (declared_notes T l.ty) _ agree)) (declared-agrees l.ty head))
 
   -- ---- targets
@@ -182,7 +181,7 @@ module _ (T U : Types) (class : Name) (in_static : Bool) where
   condition_if-one scope at None agree = refl
   condition_if-one scope at (Some test) agree = fitted-one scope (Of face.Bool) test agree tt
 
-  first_done-one : (ls : Locals) (f : PlainFirst) → AgreeOn T U class (first_done first ls f).notes → first_done first ls f ≡ first_done second ls f
+  first_done-one : (ls : _) (f : PlainFirst) → AgreeOn T U class (first_done first ls f).notes → first_done first ls f ≡ first_done second ls f
   first_done-one ls p.Nothing agree = refl
   first_done-one ls (p.FirstLocal l) agree = ap one_done (declaration-one ls l agree)
   first_done-one ls (p.FirstAction does) agree = ap one_done (action-one ls.scope does agree)
@@ -251,7 +250,7 @@ module _ (T U : Types) (class : Name) (in_static : Bool) where
   mutual
     unfolding statement
 
-    statement-one : (result : Option FaceTy) (ls : Locals) (s : PlainStmt) → AgreeAtGiven T U result → AgreeOn T U class (statement first result ls s).notes
+    statement-one : (result : Option FaceTy) (ls : _) (s : PlainStmt) → AgreeAtGiven T U result → AgreeOn T U class (statement first result ls s).notes
         → statement first result ls s ≡ statement second result ls s
     statement-one result ls (p.Block opening items closing) h agree = ap block (statements-one result ls items h agree)
     statement-one result ls (p.Local l at) h agree = declaration-one ls l agree
@@ -273,12 +272,12 @@ module _ (T U : Types) (class : Name) (in_static : Bool) where
         locked-one ls.scope held (statement first result ls inside) (statement second result ls inside) agree (statement-one result ls inside h)
     statement-one result ls (p.Return at v end) h agree = returned-one result ls.scope (suc at) v h agree
 
-    branch-one : (result : Option FaceTy) (ls : Locals) (other : PlainStmts) → AgreeAtGiven T U result → AgreeOn T U class (branch first result ls other).notes
+    branch-one : (result : Option FaceTy) (ls : _) (other : PlainStmts) → AgreeAtGiven T U result → AgreeOn T U class (branch first result ls other).notes
         → branch first result ls other ≡ branch second result ls other
     branch-one result ls p.no_stmts h agree = refl
     branch-one result ls (p.stmt s others) h agree = statement-one result ls s h agree
 
-    statements-one : (result : Option FaceTy) (ls : Locals) (items : PlainStmts) → AgreeAtGiven T U result → AgreeOn T U class (statements first result ls items).notes
+    statements-one : (result : Option FaceTy) (ls : _) (items : PlainStmts) → AgreeAtGiven T U result → AgreeOn T U class (statements first result ls items).notes
         → statements first result ls items ≡ statements second result ls items
     statements-one result ls p.no_stmts h agree = refl
     statements-one result ls (p.stmt s others) h agree =
@@ -287,7 +286,7 @@ module _ (T U : Types) (class : Name) (in_static : Bool) where
 
   -- ---- the top level of a constructor
 
-  top_statement-one : (written : Written) (ls : Locals) (s : PlainStmt) → AgreeOn T U class (top_statement first written ls s).notes
+  top_statement-one : (written : Written) (ls : _) (s : PlainStmt) → AgreeOn T U class (top_statement first written ls s).notes
       → top_statement first written ls s ≡ top_statement second written ls s
   top_statement-one written ls (p.Block opening items closing) agree = statement-one None ls (p.Block opening items closing) tt agree
   top_statement-one written ls (p.Local l at) agree = statement-one None ls (p.Local l at) tt agree
@@ -303,7 +302,7 @@ module _ (T U : Types) (class : Name) (in_static : Bool) where
   field_set-one scope (p.Action does at) h = field_written-one scope does h
   field_set-one scope _ h = refl
 
-  top_statements-one : (written : Written) (ls : Locals) (items : PlainStmts) → AgreeOn T U class (top_statements first written ls items).notes
+  top_statements-one : (written : Written) (ls : _) (items : PlainStmts) → AgreeOn T U class (top_statements first written ls items).notes
       → top_statements first written ls items ≡ top_statements second written ls items
   unfolding top_statements
   top_statements-one written ls p.no_stmts agree = refl
@@ -321,7 +320,7 @@ module _ (T U : Types) (class : Name) (in_static : Bool) where
   either-one true x other_x y other_y agree one two = one agree
   either-one false x other_x y other_y agree one two = two agree
 
-  items-one : (head : Head) (ls : Locals) (items : PlainStmts) → AgreeAtGiven T U head.result → AgreeOn T U class (items_done first head ls items).notes
+  items-one : (head : Head) (ls : _) (items : PlainStmts) → AgreeAtGiven T U head.result → AgreeOn T U class (items_done first head ls items).notes
       → items_done first head ls items ≡ items_done second head ls items
   items-one head ls items h agree =
       either-one head.is_constructor (top_statements first [] ls items) (top_statements second [] ls items) (statements first head.result ls items) (statements second head.result ls items) agree
@@ -330,6 +329,6 @@ module _ (T U : Types) (class : Name) (in_static : Bool) where
   pub body-one : (head : Head) (scope : Scope) (local : ℕ) (s : PlainStmt) → AgreeAtGiven T U head.result → AgreeOn T U class (body first head scope local s).notes
       → body first head scope local s ≡ body second head scope local s
   body-one head scope local s h agree =
-      let ls : Locals = record { scope = scope; next = local } in
+      let ds = items_done first head (record { scope = scope; next = local }) (items_of s) in
       ap (λ (d : DoneAll). with_end (block d) (end_notes head s))
-      (items-one head ls (items_of s) h (front (items_done first head ls (items_of s)).notes (end_notes head s) agree))
+      (items-one head (record { scope = scope; next = local }) (items_of s) h (front ds.notes (end_notes head s) agree))
