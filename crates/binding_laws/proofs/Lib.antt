@@ -15,3 +15,4 @@ pub mod MovedUnit
 pub mod OneUnit
 pub mod OneConsulted
 pub mod OneBinding
+pub mod FreeNames

@@ -3,9 +3,11 @@ use Rattle.std.specs.Prelude.{◌≡◌, ℕ, List, Option, Some, None, Contains
 use Rattle.java_tree.specs.declared.file.ClassTree.{ClassTree}
 use Rattle.java_tree.specs.declared.file.FileTree.{FileTree}
 use Rattle.java_tree.specs.declared.member.MemberTree.{MemberTree}
+use Rattle.java_heads.specs.Spelling.{IsFreeName}
 use Rattle.java_members.specs.Spelling.{tokens_of}
 use Rattle.java_reader.specs.Alike.{Alike}
 use Rattle.java_reader.specs.Reads.{Reads}
+use Rattle.promise_scrub.specs.declared.surface.Surface.{Surface}
 use Rattle.views.specs.Face.{Seen, surface_named}
 use Rattle.bound_unit.specs.UnitFacts.{UnitFacts}
 use Rattle.bound_unit.specs.Asked.{Agree, Covers}
@@ -13,12 +15,19 @@ use Rattle.binder.specs.Units.{IsBound}
 
 -- ---- what is there without a declaration
 
--- no class or interface of the project has the name String: no text that declares one is read
+-- no class or interface of the project has the name String
 abbrev pub DeclaresNoString : Seen → Type 0
 DeclaresNoString seen = surface_named seen.surfaces (codes "String") ≡ None
 
 abbrev pub DeclaresNoObject : Seen → Type 0
 DeclaresNoObject seen = surface_named seen.surfaces (codes "Object") ≡ None
+
+-- that is so where the types of all surfaces have free names, as those of the texts that are read have
+abbrev pub ReadNamesAreFree : Type 0
+ReadNamesAreFree = (text : List ℕ) (file : FileTree) (class : ClassTree) → Reads text file → Contains file.types class → IsFreeName class.name.text
+
+abbrev pub FreeNamesDeclareNone : Type 0
+FreeNamesDeclareNone = (seen : Seen) → ((s : Surface) → Contains seen.surfaces s → IsFreeName s.name) → DeclaresNoString seen × DeclaresNoObject seen
 
 -- ---- the consulted names
 

@@ -2,7 +2,7 @@
 //! call for the laws that it rests on.
 
 ghost use Rattle.expression_binding.specs.Laws.{TypesAreAsked, OneAnswer};
-ghost use Rattle.binding_laws.specs.Laws.{BindingCovers, OneBinding};
+ghost use Rattle.binding_laws.specs.Laws.{BindingCovers, FreeNamesDeclareNone, OneBinding, ReadNamesAreFree};
 
 use tree_places::one_unit;
 
@@ -11,6 +11,13 @@ use tree_places::one_unit;
 pub fn expressions_rest_on_what_they_tell()
     ensures types { TypesAreAsked }
     ensures one { OneAnswer }
+{}
+
+/// No type of a text that is read is called Object, String, Runnable or Thread, and where no surface is, a
+/// view shows String and Object as they are without a declaration.
+pub fn declared_names_are_free()
+    ensures read { ReadNamesAreFree }
+    ensures seen { FreeNamesDeclareNone }
 {}
 
 /// The consulted names of a bound unit cover whatever an analysis may ask of it under the view that it was

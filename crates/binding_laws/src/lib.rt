@@ -4,4 +4,7 @@
 
 mod laws;
 
-pub use laws::{consulted_names_cover, expressions_rest_on_what_they_tell, units_are_bound_alike};
+pub use laws::{
+    consulted_names_cover, declared_names_are_free, expressions_rest_on_what_they_tell,
+    units_are_bound_alike,
+};
