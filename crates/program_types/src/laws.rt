@@ -1,0 +1,8 @@
+//! What follows from the definitions alone: each call does nothing, and its contract is a law.
+
+ghost use Rattle.program_types.specs.Laws.{NamesFitNumbers};
+
+/// A statement that is typed by names is typed by the numbers of a program that fit these names.
+pub fn typed_names_have_typed_numbers()
+    ensures { NamesFitNumbers }
+{}
