@@ -1,0 +1,2 @@
+-- Typed expressions give values of their types.
+use Rattle.std.proofs.Common.{◌≡◌, refl}
