@@ -1,2 +1,219 @@
--- Typed expressions give values of their types.
-use Rattle.std.proofs.Common.{◌≡◌, refl}
+-- Typed expressions give values of their types, and typed statements fit.
+use Rattle.std.proofs.Common.{◌≡◌, ℕ, zero, suc, ◌+◌, Bool, true, false, List, [], ◌∷◌, Option, Some, None, refl, sym, ◌∙◌, ap, subst, codes, cond, reverse, map, slice_get, length, ◌||◌, ◌&&◌, if◌then◌else◌}
+use Rattle.std.specs.Prelude.{is_some, nat_lt, ◌==◌}
+use Rattle.std.specs.Str.{bytes_eq}
+use Rattle.std.specs.Option.{option_map, option_to_list}
+use Rattle.std.proofs.lemmas.Option.{slice_get-map}
+use Rattle.std.proofs.lemmas.Slice.Eq.{bytes_eq-Decides}
+use Rattle.class_faces.specs.declared.face.FaceTy.{FaceTy}
+use Rattle.class_faces.specs.declared.face.FaceTy.TheVariants as face
+use Rattle.class_faces.specs.declared.face.FieldFace.{FieldFace}
+use Rattle.class_faces.specs.declared.face.ParamFace.{ParamFace}
+use Rattle.bound_tree.specs.declared.name.FieldName.{FieldName}
+use Rattle.bound_tree.specs.declared.name.MemberName.{MemberName}
+use Rattle.bound_tree.specs.declared.name.ValueType.{ValueType}
+use Rattle.bound_tree.specs.declared.name.ValueType.TheVariants as value
+use Rattle.bound_tree.specs.declared.tree.Literal.{Literal}
+use Rattle.bound_tree.specs.declared.tree.Literal.TheVariants as literal
+use Rattle.bound_tree.specs.declared.tree.Stamp.{Stamp}
+use Rattle.bound_tree.specs.declared.tree.UnaryOp.TheVariants as unary
+use Rattle.bound_tree.specs.Tree.{Term, Terms, Statement, Statements, stamp_of}
+use Rattle.bound_tree.specs.Tree as t
+use Rattle.core_model.specs.declared.instr.Op.{Op}
+use Rattle.core_model.specs.declared.instr.Op.TheVariants as op
+use Rattle.core_model.specs.declared.program.Program.{Program}
+use Rattle.java_tree.specs.declared.file.TypeKind.{TypeKind}
+use Rattle.core_model.specs.declared.instr.Known.{Known}
+use Rattle.core_model.specs.declared.instr.Known.TheVariants as known
+use Rattle.expression_binding.specs.Methods.{NamedMethod, method_in, is_run, run_method, face_method, is_made, maker, maker_params}
+use Rattle.typed_units.specs.Named.{IsField, IsMethod}
+use Rattle.core_types.specs.Types.{Ty, IntType, BoolType, TextType, NullType, of_class, ObjectType, RunnableType, ClassType, AnyType, Types, UnitTypes, locals_of}
+use Rattle.core_types.specs.Belonging.{Suits}
+use Rattle.core_types.specs.Slots.{Use, Goes, Leaves}
+use Rattle.core_types.specs.Uses.{pushed, popped, returned, of_field, field_read, field_kept, field_written, of_call}
+use Rattle.lowering.specs.Numbers.{Numbers, class_number, class_known, or_zero}
+use Rattle.lowering.specs.declared.instr.Constant.TheVariants as constant
+use Rattle.lowering.specs.declared.instr.NamedPlain.TheVariants as plain
+use Rattle.lowering.specs.Lower.{plainly, classed, made, constant_of, count, is_over_all, least, has_value}
+use Rattle.lowering.specs.Operands.{Kind, used, Chosen, Negates, Turns, Pushes, Gives, GivesAll, GivenTo, Assigns, Steps, Changes, Runs, Drops, Fits, FitsAll}
+use Rattle.lowering.specs.Kinds.{types_asked}
+use Rattle.name_rules.specs.Types.{Name, is_declared, suits}
+use Rattle.name_rules.specs.Types as rules
+use Rattle.expression_binding.specs.Stamps.{type_of, type_given, judged_type}
+use Rattle.typed_units.specs.Frames.{Frame, IsLocal, Suited, Compared, given_suits, given_compares, type_in}
+use Rattle.typed_units.specs.Terms.{TermTyped, TermsTyped, UnaryFits, BinaryFits, literal_type, binary_type}
+use Rattle.program_types.specs.Types.{value_type, value_types, result_type, named_type, param_types, field_type}
+use Rattle.program_types.specs.Numbering.{HasClass, NumbersFit}
+use Rattle.program_types.proofs.Suiting.{itself, suits_any, suiting, starting, locks, named_declared}
+
+-- the type of what suits a place
+record Suiting (types : rules.Types) (e : Term) (ty : FaceTy) : Type 0 where
+  own : ValueType
+  is : type_in e ≡ Some own
+  fits : suits types (judged_type own) ty ≡ true
+
+suited : (types : rules.Types) (e : Term) (ty : FaceTy) → Suited types e ty → Suiting types e ty
+suited types e ty h = go (type_in e) refl h
+  where
+    go : (o : Option ValueType) → type_in e ≡ o → given_suits types o ty ≡ true → Suiting types e ty
+    go None is h = absurd (let no : ⊥ = cc in no)
+    go (Some v) is h = record { own = v; is = is; fits = h }
+
+module _ (p : Program) (T : Types) (u : UnitTypes) (r : Numbers) (f : Frame) (n : NumbersFit p T r f.types) (same : locals_of u ≡ value_types r f.locals) (result : u.result ≡ result_type r f.result) where
+  abbrev K : Kind Ty
+  K = types_asked p T u r
+
+  local_is : (x : ℕ) (ty : Option ValueType) (v : ValueType) → IsLocal f x ty → ty ≡ Some v → slice_get (locals_of u) x ≡ Some (value_type r v)
+  local_is x ty v l is =
+      ap (λ (ts : List Ty). slice_get ts x) same ∙ slice_get-map (value_type r) f.locals x ∙ ap (option_map (value_type r)) (l.kept ∙ (let e : Some l.own ≡ Some v = sym l.is ∙ is in e))
+
+  literal_gives : (at : ℕ) (l : Literal) (v : ValueType) → Some (literal_type l) ≡ Some v → Pushes K at (constant_of l) (value_type r v)
+  literal_gives at l v e = subst (λ (o : Option ValueType). Turns K (plainly at) (plain.Const (constant_of l)) [] (given o ∷ [])) e (go l)
+    where
+      given : Option ValueType → Ty
+      given None = NullType
+      given (Some w) = value_type r w
+
+      go : (l : Literal) → Pushes K at (constant_of l) (value_type r (literal_type l))
+      go (literal.Int x) = refl
+      go (literal.Boolean b) = refl
+      go literal.Null = refl
+      go (literal.Str s) = refl
+
+  -- the same where the type is told otherwise
+  retyped : (e : Term) (v w : ValueType) → Some v ≡ Some w → Gives K e (value_type r v) → Gives K e (value_type r w)
+  retyped e v w is h = subst (λ (x : ValueType). Gives K e (value_type r x)) (let e : v ≡ w = cc in e) h
+
+  -- ---- classes
+
+  field_declared : (c name : Name) (g : FieldFace) → rules.field_of f.types c name ≡ Some g → is_declared f.types c ≡ true
+  field_declared c name g h = go (f.types c) h
+    where
+      go : (o : Option rules.Face) → rules.field_in name o ≡ Some g → is_some (rules.kind_in o) ≡ true
+      go None e = absurd (let no : ⊥ = cc in no)
+      go (Some x) e = refl
+
+  known_class : (c : Name) → is_declared f.types c ≡ true → class_known (r.class c) ≡ known.Class (class_number r c)
+  known_class c d = let h = n.declared c d in ap class_known h.is ∙ ap (λ (o : Option ℕ). known.Class (or_zero o)) (sym h.is)
+
+  base_suits : (c : Name) → is_declared f.types c ≡ true → Suits T (named_type r c) (ClassType (class_number r c))
+  base_suits c d = subst (λ (s : Ty). Suits T s (ClassType (class_number r c))) (sym (named_declared p T r f.types c n d)) (itself T (ClassType (class_number r c)))
+
+  field_is : (named : FieldName) (ty : Option ValueType) (v : ValueType) (h : IsField f.types false named ty) → ty ≡ Some v
+      → slice_get (of_class T (class_number r named.class)).own (r.field named.class named.name) ≡ Some (value_type r v)
+  field_is named ty v h is =
+      n.own named.class named.name h.field h.found h.kind ∙ ap (λ (o : Option ValueType). result_type r o) (sym h.gives ∙ is)
+
+  static_is : (named : FieldName) (ty : Option ValueType) (v : ValueType) (h : IsField f.types true named ty) → ty ≡ Some v
+      → slice_get (of_class T (class_number r named.class)).statics (r.field named.class named.name) ≡ Some (value_type r v)
+  static_is named ty v h is =
+      n.statics named.class named.name h.field h.found h.kind ∙ ap (λ (o : Option ValueType). result_type r o) (sym h.gives ∙ is)
+
+  reads : (at : ℕ) (named : FieldName) (ty : Option ValueType) (v : ValueType) (h : IsField f.types false named ty) → ty ≡ Some v
+      → Turns K (classed at named.class) (plain.Field named.name) (ClassType (class_number r named.class) ∷ []) (value_type r v ∷ [])
+  reads at named ty v h is =
+      ap (λ (k : Known). of_field field_read T k (r.field named.class named.name)) (known_class named.class (field_declared named.class named.name h.field h.found))
+      ∙ ap (field_read (class_number r named.class)) (field_is named ty v h is)
+
+  keeps : (at : ℕ) (named : FieldName) (ty : Option ValueType) (v : ValueType) (h : IsField f.types false named ty) → ty ≡ Some v
+      → Turns K (classed at named.class) (plain.FieldKeep named.name) (ClassType (class_number r named.class) ∷ [])
+        (value_type r v ∷ ClassType (class_number r named.class) ∷ [])
+  keeps at named ty v h is =
+      ap (λ (k : Known). of_field field_kept T k (r.field named.class named.name)) (known_class named.class (field_declared named.class named.name h.field h.found))
+      ∙ ap (field_kept (class_number r named.class)) (field_is named ty v h is)
+
+  writes : (at : ℕ) (named : FieldName) (ty : Option ValueType) (v : ValueType) (h : IsField f.types false named ty) → ty ≡ Some v
+      → Turns K (classed at named.class) (plain.PutField named.name) (value_type r v ∷ ClassType (class_number r named.class) ∷ []) []
+  writes at named ty v h is =
+      ap (λ (k : Known). of_field field_written T k (r.field named.class named.name)) (known_class named.class (field_declared named.class named.name h.field h.found))
+      ∙ ap (field_written (class_number r named.class)) (field_is named ty v h is)
+
+  -- ---- `new`
+
+  bare : (c : Name) → rules.is_object c ≡ true → maker_params (maker f.types c) ≡ []
+  bare c h = go (is_declared f.types c) refl
+    where
+      none : (o : Option rules.Face) → is_some (rules.kind_in o) ≡ false → maker_params (rules.maker_in c o) ≡ []
+      none None e = refl
+      none (Some x) e = absurd (let no : ⊥ = cc in no)
+
+      built_in : (a b : Bool) → a ≡ true → (a || b) ≡ false → ⊥
+      built_in true b e g = cc
+      built_in false b e g = cc
+
+      go : (b : Bool) → is_declared f.types c ≡ b → maker_params (maker f.types c) ≡ []
+      go true e = absurd (built_in (rules.is_object c) (rules.is_string c || rules.is_runnable c) h (n.apart c e))
+      go false e = none (f.types c) e
+
+  makes : (at : ℕ) (c : Name) (k : ℕ) → is_made f.types c k ≡ true
+      → Turns K (plainly at) (made c k) (reverse (param_types r (maker_params (maker f.types c)))) (named_type r c ∷ [])
+  makes at c k h = go (rules.is_object c) refl
+    where
+      class_of_made : (a b : Bool) → a ≡ false → ((a || b) && (length (maker_params (maker f.types c)) == k)) ≡ true → b ≡ true
+      class_of_made true b e g = absurd (let no : ⊥ = cc in no)
+      class_of_made false true e g = refl
+      class_of_made false false e g = g
+
+      class_declared : (o : Option TypeKind) → rules.is_class_kind o ≡ true → is_some o ≡ true
+      class_declared None e = e
+      class_declared (Some x) e = refl
+
+      declared : rules.is_object c ≡ false → is_declared f.types c ≡ true
+      declared e = class_declared (rules.kind_in (f.types c)) (class_of_made (rules.is_object c) (rules.is_class f.types c) e h)
+
+      go : (b : Bool) → rules.is_object c ≡ b → Turns K (plainly at) (made c k) (reverse (param_types r (maker_params (maker f.types c)))) (named_type r c ∷ [])
+      go true e =
+          ap (λ (b : Bool). used K (plainly at) (if b then plain.MakePlain else plain.Make c k)) e
+          ∙ ap (λ (ps : List ParamFace). Goes (reverse (param_types r ps)) (ObjectType ∷ [])) (sym (bare c e))
+          ∙ ap (λ (s : Ty). Goes (reverse (param_types r (maker_params (maker f.types c)))) (s ∷ []))
+            (sym (ap (λ (b : Bool). if b then ObjectType else (if rules.is_string c then TextType else (if rules.is_runnable c then RunnableType else ClassType (class_number r c)))) e))
+      go false e =
+          ap (λ (b : Bool). used K (plainly at) (if b then plain.MakePlain else plain.Make c k)) e
+          ∙ n.makes c k h e
+          ∙ ap (λ (s : Ty). Goes (reverse (param_types r (maker_params (maker f.types c)))) (s ∷ [])) (sym (named_declared p T r f.types c n (declared e)))
+
+  -- ---- calls
+
+  method_declared : (c name : Name) (k : ℕ) (m : NamedMethod) → is_run c name k ≡ false → method_in f.types c name k ≡ Some m → is_declared f.types c ≡ true
+  method_declared c name k m plain h = go (is_run c name k) (f.types c) plain h
+    where
+      go : (b : Bool) (o : Option rules.Face) → b ≡ false
+          → (if b then Some (run_method c name) else face_method c name (rules.member_in (rules.member_key c name k) o)) ≡ Some m → is_some (rules.kind_in o) ≡ true
+      go true o e g = absurd (let no : ⊥ = cc in no)
+      go false None e g = absurd (let no : ⊥ = cc in no)
+      go false (Some x) e g = refl
+
+  abbrev gives_of_method : Name → NamedMethod → Use Ty
+  gives_of_method c m = Goes (reverse (named_type r c ∷ param_types r m.params)) (option_to_list (result_type r (type_given m.result)))
+
+  run_called : (c name : Name) (k : ℕ) → is_run c name k ≡ true
+      → of_call p T (class_known (r.class c)) (r.member name) k ≡ gives_of_method c (run_method c name)
+  run_called c name k h = ?
+
+  calls : (at : ℕ) (c name : Name) (k : ℕ) (m : NamedMethod) → method_in f.types c name k ≡ Some m → m.is_static ≡ false
+      → used K (classed at c) (plain.Call name k) ≡ gives_of_method c m
+  calls at c name k m h dynamic = go (is_run c name k) refl
+    where
+      runs : (b : Bool) → b ≡ true → (if b then Some (run_method c name) else face_method c name (rules.member_in (rules.member_key c name k) (f.types c))) ≡ Some m → run_method c name ≡ m
+      runs true e g = cc
+      runs false e g = absurd (let no : ⊥ = cc in no)
+
+      go : (b : Bool) → is_run c name k ≡ b → used K (classed at c) (plain.Call name k) ≡ gives_of_method c m
+      go true e = run_called c name k e ∙ ap (gives_of_method c) (runs (is_run c name k) e h)
+      go false e =
+          let d = method_declared c name k m e h in
+          ap (λ (kn : Known). of_call p T kn (r.member name) k) (known_class c d)
+          ∙ n.calls c name k m d h dynamic
+          ∙ ap (λ (s : Ty). Goes (reverse (s ∷ param_types r m.params)) (option_to_list (result_type r (type_given m.result)))) (sym (named_declared p T r f.types c n d))
+
+  calls_static : (at : ℕ) (c name : Name) (k : ℕ) (m : NamedMethod) → method_in f.types c name k ≡ Some m → m.is_static ≡ true
+      → used K (classed at c) (plain.CallStatic c name k) ≡ Goes (reverse (param_types r m.params)) (option_to_list (result_type r (type_given m.result)))
+  calls_static at c name k m h static = go (is_run c name k) refl
+    where
+      runs : (b : Bool) → b ≡ true → (if b then Some (run_method c name) else face_method c name (rules.member_in (rules.member_key c name k) (f.types c))) ≡ Some m → run_method c name ≡ m
+      runs true e g = cc
+      runs false e g = absurd (let no : ⊥ = cc in no)
+
+      go : (b : Bool) → is_run c name k ≡ b → used K (classed at c) (plain.CallStatic c name k) ≡ Goes (reverse (param_types r m.params)) (option_to_list (result_type r (type_given m.result)))
+      go true e = absurd (let g : false ≡ true = ap (λ (x : NamedMethod). x.is_static) (runs (is_run c name k) e h) ∙ static in let no : ⊥ = cc in no)
+      go false e = n.calls_static c name k m (method_declared c name k m e h) h static
