@@ -23,13 +23,14 @@ use Rattle.core_model.specs.declared.instr.Op.{Op}
 use Rattle.core_model.specs.declared.instr.Op.TheVariants as op
 use Rattle.core_model.specs.declared.program.Program.{Program}
 use Rattle.java_tree.specs.declared.file.TypeKind.{TypeKind}
+use Rattle.core_model.specs.declared.program.TheConstants.{RUN}
 use Rattle.core_model.specs.declared.instr.Known.{Known}
 use Rattle.core_model.specs.declared.instr.Known.TheVariants as known
 use Rattle.expression_binding.specs.Methods.{NamedMethod, method_in, is_run, run_method, face_method, is_made, maker, maker_params}
 use Rattle.typed_units.specs.Named.{IsField, IsMethod}
 use Rattle.core_types.specs.Types.{Ty, IntType, BoolType, TextType, NullType, of_class, ObjectType, RunnableType, ClassType, AnyType, Types, UnitTypes, locals_of}
 use Rattle.core_types.specs.Belonging.{Suits}
-use Rattle.core_types.specs.Slots.{Use, Goes, Leaves}
+use Rattle.core_types.specs.Slots.{Use, Goes, Leaves, Wrong}
 use Rattle.core_types.specs.Uses.{pushed, popped, returned, of_field, field_read, field_kept, field_written, of_call}
 use Rattle.lowering.specs.Numbers.{Numbers, class_number, class_known, or_zero}
 use Rattle.lowering.specs.declared.instr.Constant.TheVariants as constant
@@ -42,9 +43,10 @@ use Rattle.name_rules.specs.Types as rules
 use Rattle.expression_binding.specs.Stamps.{type_of, type_given, judged_type}
 use Rattle.typed_units.specs.Frames.{Frame, IsLocal, Suited, Compared, given_suits, given_compares, type_in}
 use Rattle.typed_units.specs.Terms.{TermTyped, TermsTyped, UnaryFits, BinaryFits, literal_type, binary_type}
-use Rattle.program_types.specs.Types.{value_type, value_types, result_type, named_type, param_types, field_type}
+use Rattle.typed_units.proofs.Giving.{typed-gives}
+use Rattle.program_types.specs.Types.{param_type, value_type, value_types, result_type, named_type, param_types, field_type}
 use Rattle.program_types.specs.Numbering.{HasClass, NumbersFit}
-use Rattle.program_types.proofs.Suiting.{itself, suits_any, suiting, starting, locks, named_declared}
+use Rattle.program_types.proofs.Suiting.{itself, suits_any, suiting, starting, locks, named_declared, named_runnable, and_first, and_second}
 
 -- the type of what suits a place
 record Suiting (types : rules.Types) (e : Term) (ty : FaceTy) : Type 0 where
@@ -188,7 +190,26 @@ module _ (p : Program) (T : Types) (u : UnitTypes) (r : Numbers) (f : Frame) (n 
 
   run_called : (c name : Name) (k : ℕ) → is_run c name k ≡ true
       → of_call p T (class_known (r.class c)) (r.member name) k ≡ gives_of_method c (run_method c name)
-  run_called c name k h = ?
+  run_called c name k h =
+      ap (λ (kn : Known). of_call p T kn (r.member name) k) (ap class_known (ap r.class class_is ∙ n.runnable))
+      ∙ ap (λ (m : ℕ). if (m == RUN) && (k == 0) then Goes (RunnableType ∷ []) [] else Wrong) (ap r.member name_is ∙ n.run)
+      ∙ ap (λ (b : Bool). if b then Goes (RunnableType ∷ []) [] else Wrong) none
+      ∙ ap (λ (s : Ty). Goes (s ∷ []) []) (sym (named_runnable r c runnable))
+      where
+        runnable : rules.is_runnable c ≡ true
+        runnable = and_first (rules.is_runnable c) (bytes_eq name (codes "run") && (k == 0)) h
+
+        rest : (bytes_eq name (codes "run") && (k == 0)) ≡ true
+        rest = and_second (rules.is_runnable c) (bytes_eq name (codes "run") && (k == 0)) h
+
+        class_is : c ≡ codes "Runnable"
+        class_is = (bytes_eq-Decides c (codes "Runnable")).0 runnable
+
+        name_is : name ≡ codes "run"
+        name_is = (bytes_eq-Decides name (codes "run")).0 (and_first (bytes_eq name (codes "run")) (k == 0) rest)
+
+        none : (k == 0) ≡ true
+        none = and_second (bytes_eq name (codes "run")) (k == 0) rest
 
   calls : (at : ℕ) (c name : Name) (k : ℕ) (m : NamedMethod) → method_in f.types c name k ≡ Some m → m.is_static ≡ false
       → used K (classed at c) (plain.Call name k) ≡ gives_of_method c m
@@ -217,3 +238,142 @@ module _ (p : Program) (T : Types) (u : UnitTypes) (r : Numbers) (f : Frame) (n 
       go : (b : Bool) → is_run c name k ≡ b → used K (classed at c) (plain.CallStatic c name k) ≡ Goes (reverse (param_types r m.params)) (option_to_list (result_type r (type_given m.result)))
       go true e = absurd (let g : false ≡ true = ap (λ (x : NamedMethod). x.is_static) (runs (is_run c name k) e h) ∙ static in let no : ⊥ = cc in no)
       go false e = n.calls_static c name k m (method_declared c name k m e h) h static
+
+  -- ---- expressions
+
+  negated : (at : ℕ) (a : Term) (b : Bool) → Negates K at a IntType → Chosen b (Pushes K at (constant.Int least) IntType) (Negates K at a IntType)
+  negated at a true h = refl
+  negated at a false h = h
+
+  suits_on : (s t w : Ty) → Suits T s t → Suits T t w → Suits T s w
+  suits_on s t w h g os x q = g os x (h os x q)
+
+  abbrev method_gives : Name → List ParamFace → Option ValueType → Use Ty
+  method_gives c params o = Goes (reverse (named_type r c ∷ param_types r params)) (option_to_list (result_type r o))
+
+  abbrev static_gives : List ParamFace → Option ValueType → Use Ty
+  static_gives params o = Goes (reverse (param_types r params)) (option_to_list (result_type r o))
+
+  mutual
+    gives : (e : Term) (v : ValueType) → TermTyped f e → type_in e ≡ Some v → Gives K e (value_type r v)
+    gives (t.Const s l) v h is = literal_gives s.at l v (sym h ∙ is)
+    gives (t.This s) v h is = ap pushed (local_is 0 s.ty v h is)
+    gives (t.Local s x) v h is = ap pushed (local_is x s.ty v h is)
+    gives (t.Field s b named) v h is = (
+      named_type r named.class,
+      ClassType (class_number r named.class),
+      gives b (value.Named named.class) h.0 h.1,
+      base_suits named.class (field_declared named.class named.name h.2.field h.2.found),
+      reads s.at named s.ty v h.2 is,
+    )
+    gives (t.Static s named) v h is = ap pushed (static_is named s.ty v h is)
+    gives (t.New s c es) v h is =
+        retyped (t.New s c es) (value.Named c) v (sym h.0 ∙ is)
+        (param_types r (maker_params (maker f.types c)), gives_all (maker_params (maker f.types c)) es h.2, makes s.at c (count es) h.1)
+    gives (t.Call s e m es) v h is = (
+      named_type r m.class,
+      named_type r m.class,
+      param_types r h.2.0.method.params,
+      gives e (value.Named m.class) h.0 h.1,
+      itself T (named_type r m.class),
+      gives_all h.2.0.method.params es h.2.1,
+      calls s.at m.class m.name (count es) h.2.0.method h.2.0.found h.2.0.kind ∙ ap (method_gives m.class h.2.0.method.params) (sym h.2.0.gives ∙ is),
+    )
+    gives (t.CallStatic s m es) v h is = (
+      param_types r h.0.method.params,
+      gives_all h.0.method.params es h.1,
+      calls_static s.at m.class m.name (count es) h.0.method h.0.found h.0.kind ∙ ap (static_gives h.0.method.params) (sym h.0.gives ∙ is),
+    )
+    gives (t.Unknown s k es) v h is = absurd h
+    gives (t.UnknownField s b k) v h is = absurd h
+    gives (t.UnknownCall s e k es) v h is = absurd h
+    gives (t.Unary s unary.Not a) v h is =
+        let g = suited f.types a face.Bool h.1 in
+        retyped (t.Unary s unary.Not a) value.Boolean v (sym h.2 ∙ is)
+        (value_type r g.own, BoolType, gives a g.own h.0 g.is, suiting p T r f.types n g.own face.Bool g.fits, refl)
+    gives (t.Unary s unary.Negate a) v h is =
+        let g = suited f.types a face.Int h.1 in
+        retyped (t.Unary s unary.Negate a) value.Int v (sym h.2 ∙ is)
+        (negated s.at a (is_over_all a) (value_type r g.own, IntType, gives a g.own h.0 g.is, suiting p T r f.types n g.own face.Int g.fits, refl))
+    gives (t.And s a b) v h is =
+        let g = suited f.types a face.Bool h.2.0 in
+        let i = suited f.types b face.Bool h.2.1 in
+        retyped (t.And s a b) value.Boolean v (sym h.3 ∙ is) (
+          value_type r g.own,
+          value_type r i.own,
+          BoolType,
+          gives a g.own h.0 g.is,
+          suiting p T r f.types n g.own face.Bool g.fits,
+          gives b i.own h.1 i.is,
+          refl,
+          λ (w : Ty) (q : Suits T BoolType w). (suits_on (value_type r i.own) BoolType w (suiting p T r f.types n i.own face.Bool i.fits) q, q),
+        )
+    gives (t.Or s a b) v h is =
+        let g = suited f.types a face.Bool h.2.0 in
+        let i = suited f.types b face.Bool h.2.1 in
+        retyped (t.Or s a b) value.Boolean v (sym h.3 ∙ is) (
+          value_type r g.own,
+          value_type r i.own,
+          BoolType,
+          gives a g.own h.0 g.is,
+          suiting p T r f.types n g.own face.Bool g.fits,
+          gives b i.own h.1 i.is,
+          refl,
+          λ (w : Ty) (q : Suits T BoolType w). (suits_on (value_type r i.own) BoolType w (suiting p T r f.types n i.own face.Bool i.fits) q, q),
+        )
+    gives (t.Binary s o a b) v h is = retyped (t.Binary s o a b) (binary_type o) v (sym h.3 ∙ is) (operands s o a b h.0 h.1 h.2)
+
+    operands : (s : Stamp) (o : Op) (a b : Term) → TermTyped f a → TermTyped f b → BinaryFits f.types o a b → Gives K (t.Binary s o a b) (value_type r (binary_type o))
+    operands s op.Add a b h i g = ints s op.Add a b IntType h i g.0 g.1 refl
+    operands s op.Subtract a b h i g = ints s op.Subtract a b IntType h i g.0 g.1 refl
+    operands s op.Multiply a b h i g = ints s op.Multiply a b IntType h i g.0 g.1 refl
+    operands s op.Divide a b h i g = ints s op.Divide a b IntType h i g.0 g.1 refl
+    operands s op.Remainder a b h i g = ints s op.Remainder a b IntType h i g.0 g.1 refl
+    operands s op.Less a b h i g = ints s op.Less a b BoolType h i g.0 g.1 refl
+    operands s op.Greater a b h i g = ints s op.Greater a b BoolType h i g.0 g.1 refl
+    operands s op.AtMost a b h i g = ints s op.AtMost a b BoolType h i g.0 g.1 refl
+    operands s op.AtLeast a b h i g = ints s op.AtLeast a b BoolType h i g.0 g.1 refl
+    operands s op.Equal a b h i g = values s op.Equal a b h i (type_in a) refl (type_in b) refl g refl
+    operands s op.NotEqual a b h i g = values s op.NotEqual a b h i (type_in a) refl (type_in b) refl g refl
+
+    ints : (s : Stamp) (o : Op) (a b : Term) (to : Ty) → TermTyped f a → TermTyped f b → Suited f.types a face.Int → Suited f.types b face.Int
+        → used K (plainly s.at) (plain.Op o) ≡ Goes (IntType ∷ IntType ∷ []) (to ∷ []) → Gives K (t.Binary s o a b) to
+    ints s o a b to h i ha hb turns =
+        let g = suited f.types a face.Int ha in
+        let j = suited f.types b face.Int hb in
+        (
+          value_type r g.own,
+          IntType,
+          value_type r j.own,
+          IntType,
+          gives a g.own h g.is,
+          suiting p T r f.types n g.own face.Int g.fits,
+          gives b j.own i j.is,
+          suiting p T r f.types n j.own face.Int j.fits,
+          turns,
+        )
+
+    values : (s : Stamp) (o : Op) (a b : Term) → TermTyped f a → TermTyped f b → (x : Option ValueType) → type_in a ≡ x → (y : Option ValueType) → type_in b ≡ y
+        → given_compares f.types x y ≡ true → used K (plainly s.at) (plain.Op o) ≡ Goes (AnyType ∷ AnyType ∷ []) (BoolType ∷ []) → Gives K (t.Binary s o a b) BoolType
+    values s o a b h i None ha y hb g turns = absurd (let no : ⊥ = cc in no)
+    values s o a b h i (Some x) ha None hb g turns = absurd (let no : ⊥ = cc in no)
+    values s o a b h i (Some x) ha (Some y) hb g turns =
+        (value_type r x, AnyType, value_type r y, AnyType, gives a x h ha, suits_any T (value_type r x), gives b y i hb, suits_any T (value_type r y), turns)
+
+    gives_all : (params : List ParamFace) (es : Terms) → TermsTyped f params es → GivesAll K es (param_types r params)
+    gives_all params t.no_terms h = ap (param_types r) h
+    gives_all params (t.term e es) h =
+        let g = suited f.types e h.0.ty h.4 in
+        (
+          value_type r g.own,
+          param_type r h.0,
+          param_types r h.1,
+          gives e g.own h.3 g.is,
+          suiting p T r f.types n g.own h.0.ty g.fits,
+          gives_all h.1 es h.5,
+          ap (param_types r) h.2,
+        )
+
+  -- the value of an expression that suits a declared type
+  given_to : (e : Term) (ty : FaceTy) → TermTyped f e → Suited f.types e ty → GivenTo K e (value_type r (type_of ty))
+  given_to e ty h s = let g = suited f.types e ty s in (value_type r g.own, gives e g.own h g.is, suiting p T r f.types n g.own ty g.fits)

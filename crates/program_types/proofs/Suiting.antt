@@ -28,11 +28,11 @@ use Rattle.program_types.specs.Numbering.{HasClass, NumbersFit}
 
 -- ---- tests
 
-and_first : (a b : Bool) → (a && b) ≡ true → a ≡ true
+pub and_first : (a b : Bool) → (a && b) ≡ true → a ≡ true
 and_first true b e = refl
 and_first false b e = e
 
-and_second : (a b : Bool) → (a && b) ≡ true → b ≡ true
+pub and_second : (a b : Bool) → (a && b) ≡ true → b ≡ true
 and_second true b e = e
 and_second false b e = absurd (let no : ⊥ = cc in no)
 
@@ -170,7 +170,7 @@ named_object r d h =
 runs_named : (r : Numbers) → named_type r (codes "Runnable") ≡ RunnableType
 runs_named r = refl
 
-named_runnable : (r : Numbers) (d : Name) → rules.is_runnable d ≡ true → named_type r d ≡ RunnableType
+pub named_runnable : (r : Numbers) (d : Name) → rules.is_runnable d ≡ true → named_type r d ≡ RunnableType
 named_runnable r d h = ap (named_type r) ((bytes_eq-Decides d (codes "Runnable")).0 h) ∙ runs_named r
 
 -- a class suits Runnable where its own objects may run, and an interface that is implemented
