@@ -254,6 +254,47 @@ module _ (p : Program) (T : Types) (u : UnitTypes) (r : Numbers) (f : Frame) (n 
   abbrev static_gives : List ParamFace → Option ValueType → Use Ty
   static_gives params o = Goes (reverse (param_types r params)) (option_to_list (result_type r o))
 
+  -- the expression gives a value of its type
+  abbrev Given : Term → Type 0
+  Given e = (v : ValueType) → type_in e ≡ Some v → Gives K e (value_type r v)
+
+  ints : (s : Stamp) (o : Op) (a b : Term) (to : Ty) → Given a → Given b → Suited f.types a face.Int → Suited f.types b face.Int
+      → used K (plainly s.at) (plain.Op o) ≡ Goes (IntType ∷ IntType ∷ []) (to ∷ []) → Gives K (t.Binary s o a b) to
+  ints s o a b to h i ha hb turns =
+      let g = suited f.types a face.Int ha in
+      let j = suited f.types b face.Int hb in
+      (
+        value_type r g.own,
+        IntType,
+        value_type r j.own,
+        IntType,
+        h g.own g.is,
+        suiting p T r f.types n g.own face.Int g.fits,
+        i j.own j.is,
+        suiting p T r f.types n j.own face.Int j.fits,
+        turns,
+      )
+
+  values : (s : Stamp) (o : Op) (a b : Term) → Given a → Given b → (x : Option ValueType) → type_in a ≡ x → (y : Option ValueType) → type_in b ≡ y
+      → given_compares f.types x y ≡ true → used K (plainly s.at) (plain.Op o) ≡ Goes (AnyType ∷ AnyType ∷ []) (BoolType ∷ []) → Gives K (t.Binary s o a b) BoolType
+  values s o a b h i None ha y hb g turns = absurd (let no : ⊥ = cc in no)
+  values s o a b h i (Some x) ha None hb g turns = absurd (let no : ⊥ = cc in no)
+  values s o a b h i (Some x) ha (Some y) hb g turns =
+      (value_type r x, AnyType, value_type r y, AnyType, h x ha, suits_any T (value_type r x), i y hb, suits_any T (value_type r y), turns)
+
+  operands : (s : Stamp) (o : Op) (a b : Term) → Given a → Given b → BinaryFits f.types o a b → Gives K (t.Binary s o a b) (value_type r (binary_type o))
+  operands s op.Add a b h i g = ints s op.Add a b IntType h i g.0 g.1 refl
+  operands s op.Subtract a b h i g = ints s op.Subtract a b IntType h i g.0 g.1 refl
+  operands s op.Multiply a b h i g = ints s op.Multiply a b IntType h i g.0 g.1 refl
+  operands s op.Divide a b h i g = ints s op.Divide a b IntType h i g.0 g.1 refl
+  operands s op.Remainder a b h i g = ints s op.Remainder a b IntType h i g.0 g.1 refl
+  operands s op.Less a b h i g = ints s op.Less a b BoolType h i g.0 g.1 refl
+  operands s op.Greater a b h i g = ints s op.Greater a b BoolType h i g.0 g.1 refl
+  operands s op.AtMost a b h i g = ints s op.AtMost a b BoolType h i g.0 g.1 refl
+  operands s op.AtLeast a b h i g = ints s op.AtLeast a b BoolType h i g.0 g.1 refl
+  operands s op.Equal a b h i g = values s op.Equal a b h i (type_in a) refl (type_in b) refl g refl
+  operands s op.NotEqual a b h i g = values s op.NotEqual a b h i (type_in a) refl (type_in b) refl g refl
+
   mutual
     gives : (e : Term) (v : ValueType) → TermTyped f e → type_in e ≡ Some v → Gives K e (value_type r v)
     gives (t.Const s l) v h is = literal_gives s.at l v (sym h ∙ is)
@@ -321,44 +362,7 @@ module _ (p : Program) (T : Types) (u : UnitTypes) (r : Numbers) (f : Frame) (n 
           refl,
           λ (w : Ty) (q : Suits T BoolType w). (suits_on (value_type r i.own) BoolType w (suiting p T r f.types n i.own face.Bool i.fits) q, q),
         )
-    gives (t.Binary s o a b) v h is = retyped (t.Binary s o a b) (binary_type o) v (sym h.3 ∙ is) (operands s o a b h.0 h.1 h.2)
-
-    operands : (s : Stamp) (o : Op) (a b : Term) → TermTyped f a → TermTyped f b → BinaryFits f.types o a b → Gives K (t.Binary s o a b) (value_type r (binary_type o))
-    operands s op.Add a b h i g = ints s op.Add a b IntType h i g.0 g.1 refl
-    operands s op.Subtract a b h i g = ints s op.Subtract a b IntType h i g.0 g.1 refl
-    operands s op.Multiply a b h i g = ints s op.Multiply a b IntType h i g.0 g.1 refl
-    operands s op.Divide a b h i g = ints s op.Divide a b IntType h i g.0 g.1 refl
-    operands s op.Remainder a b h i g = ints s op.Remainder a b IntType h i g.0 g.1 refl
-    operands s op.Less a b h i g = ints s op.Less a b BoolType h i g.0 g.1 refl
-    operands s op.Greater a b h i g = ints s op.Greater a b BoolType h i g.0 g.1 refl
-    operands s op.AtMost a b h i g = ints s op.AtMost a b BoolType h i g.0 g.1 refl
-    operands s op.AtLeast a b h i g = ints s op.AtLeast a b BoolType h i g.0 g.1 refl
-    operands s op.Equal a b h i g = values s op.Equal a b h i (type_in a) refl (type_in b) refl g refl
-    operands s op.NotEqual a b h i g = values s op.NotEqual a b h i (type_in a) refl (type_in b) refl g refl
-
-    ints : (s : Stamp) (o : Op) (a b : Term) (to : Ty) → TermTyped f a → TermTyped f b → Suited f.types a face.Int → Suited f.types b face.Int
-        → used K (plainly s.at) (plain.Op o) ≡ Goes (IntType ∷ IntType ∷ []) (to ∷ []) → Gives K (t.Binary s o a b) to
-    ints s o a b to h i ha hb turns =
-        let g = suited f.types a face.Int ha in
-        let j = suited f.types b face.Int hb in
-        (
-          value_type r g.own,
-          IntType,
-          value_type r j.own,
-          IntType,
-          gives a g.own h g.is,
-          suiting p T r f.types n g.own face.Int g.fits,
-          gives b j.own i j.is,
-          suiting p T r f.types n j.own face.Int j.fits,
-          turns,
-        )
-
-    values : (s : Stamp) (o : Op) (a b : Term) → TermTyped f a → TermTyped f b → (x : Option ValueType) → type_in a ≡ x → (y : Option ValueType) → type_in b ≡ y
-        → given_compares f.types x y ≡ true → used K (plainly s.at) (plain.Op o) ≡ Goes (AnyType ∷ AnyType ∷ []) (BoolType ∷ []) → Gives K (t.Binary s o a b) BoolType
-    values s o a b h i None ha y hb g turns = absurd (let no : ⊥ = cc in no)
-    values s o a b h i (Some x) ha None hb g turns = absurd (let no : ⊥ = cc in no)
-    values s o a b h i (Some x) ha (Some y) hb g turns =
-        (value_type r x, AnyType, value_type r y, AnyType, gives a x h ha, suits_any T (value_type r x), gives b y i hb, suits_any T (value_type r y), turns)
+    gives (t.Binary s o a b) v h is = retyped (t.Binary s o a b) (binary_type o) v (sym h.3 ∙ is) (operands s o a b (λ (x : ValueType) (e : type_in a ≡ Some x). gives a x h.0 e) (λ (x : ValueType) (e : type_in b ≡ Some x). gives b x h.1 e) h.2)
 
     gives_all : (params : List ParamFace) (es : Terms) → TermsTyped f params es → GivesAll K es (param_types r params)
     gives_all params t.no_terms h = ap (param_types r) h
