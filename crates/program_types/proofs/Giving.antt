@@ -41,7 +41,8 @@ use Rattle.lowering.specs.Kinds.{types_asked}
 use Rattle.name_rules.specs.Types.{Name, is_declared, suits}
 use Rattle.name_rules.specs.Types as rules
 use Rattle.expression_binding.specs.Stamps.{type_of, type_given, judged_type}
-use Rattle.typed_units.specs.Frames.{Frame, IsLocal, Suited, Compared, given_suits, given_compares, type_in}
+use Rattle.typed_units.specs.Frames.{Frame, IsLocal, Suited, Compared, given_suits, given_compares, given_starts, given_locks, declared_as, type_in}
+use Rattle.typed_units.specs.Statements.{StatementTyped, StatementsTyped, SuitsGiven, IsTarget}
 use Rattle.typed_units.specs.Terms.{TermTyped, TermsTyped, UnaryFits, BinaryFits, literal_type, binary_type}
 use Rattle.typed_units.proofs.Giving.{typed-gives}
 use Rattle.program_types.specs.Types.{param_type, value_type, value_types, result_type, named_type, param_types, field_type}
@@ -381,3 +382,171 @@ module _ (p : Program) (T : Types) (u : UnitTypes) (r : Numbers) (f : Frame) (n 
   -- the value of an expression that suits a declared type
   given_to : (e : Term) (ty : FaceTy) → TermTyped f e → Suited f.types e ty → GivenTo K e (value_type r (type_of ty))
   given_to e ty h s = let g = suited f.types e ty s in (value_type r g.own, gives e g.own h g.is, suiting p T r f.types n g.own ty g.fits)
+
+  -- ---- statements
+
+  told : (ty : ValueType) → type_of (declared_as ty) ≡ ty
+  told value.Int = refl
+  told value.Boolean = refl
+  told value.Null = refl
+  told (value.Named c) = refl
+
+  given_as : (e : Term) (ty : ValueType) → TermTyped f e → Suited f.types e (declared_as ty) → GivenTo K e (value_type r ty)
+  given_as e ty h s = subst (λ (v : ValueType). GivenTo K e (value_type r v)) (told ty) (given_to e (declared_as ty) h s)
+
+  assigned : (e : Term) (ty : Option ValueType) (v : ValueType) → ty ≡ Some v → TermTyped f e → SuitsGiven f.types e ty → GivenTo K e (value_type r v)
+  assigned e None v is h s = absurd s
+  assigned e (Some ty) v is h s = subst (λ (w : ValueType). GivenTo K e (value_type r w)) (let same : ty ≡ v = cc in same) (given_as e ty h s)
+
+  assigns : (to e : Term) → IsTarget to → TermTyped f to → TermTyped f e → SuitsGiven f.types e (type_in to) → Assigns K to e
+  assigns (t.Local s x) e i h g q = (value_type r h.own, assigned e s.ty h.own h.is g q, ap popped (local_is x s.ty h.own h h.is))
+  assigns (t.Field s b named) e i h g q = (
+    ClassType (class_number r named.class),
+    value_type r (type_of h.2.field.ty),
+    (named_type r named.class, gives b (value.Named named.class) h.0 h.1, base_suits named.class (field_declared named.class named.name h.2.field h.2.found)),
+    assigned e s.ty (type_of h.2.field.ty) h.2.gives g q,
+    writes s.at named s.ty (type_of h.2.field.ty) h.2 h.2.gives,
+  )
+  assigns (t.Static s named) e i h g q =
+      (value_type r (type_of h.field.ty), assigned e s.ty (type_of h.field.ty) h.gives g q, ap popped (static_is named s.ty (type_of h.field.ty) h h.gives))
+  assigns (t.Const s l) e i h g q = absurd i
+  assigns (t.This s) e i h g q = absurd i
+  assigns (t.New s c es) e i h g q = absurd i
+  assigns (t.Call s b m es) e i h g q = absurd i
+  assigns (t.CallStatic s m es) e i h g q = absurd i
+  assigns (t.Unknown s k es) e i h g q = absurd i
+  assigns (t.UnknownField s b k) e i h g q = absurd i
+  assigns (t.UnknownCall s b k es) e i h g q = absurd i
+  assigns (t.Unary s o a) e i h g q = absurd i
+  assigns (t.And s a b) e i h g q = absurd i
+  assigns (t.Or s a b) e i h g q = absurd i
+  assigns (t.Binary s o a b) e i h g q = absurd i
+
+  int_of_place : (e : Term) → Suited f.types e face.Int → type_in e ≡ Some value.Int
+  int_of_place e h = let g = suited f.types e face.Int h in g.is ∙ go g.own g.fits
+    where
+      go : (v : ValueType) → suits f.types (judged_type v) face.Int ≡ true → Some v ≡ Some value.Int
+      go value.Int e = refl
+      go value.Boolean e = absurd (let no : ⊥ = cc in no)
+      go value.Null e = absurd (let no : ⊥ = cc in no)
+      go (value.Named c) e = absurd (let no : ⊥ = cc in no)
+
+  arithmetic : (at : ℕ) (o : Op) → binary_type o ≡ value.Int → used K (plainly at) (plain.Op o) ≡ Goes (IntType ∷ IntType ∷ []) (IntType ∷ [])
+  arithmetic at op.Add e = refl
+  arithmetic at op.Subtract e = refl
+  arithmetic at op.Multiply e = refl
+  arithmetic at op.Divide e = refl
+  arithmetic at op.Remainder e = refl
+  arithmetic at op.Less e = absurd (let no : ⊥ = cc in no)
+  arithmetic at op.Greater e = absurd (let no : ⊥ = cc in no)
+  arithmetic at op.AtMost e = absurd (let no : ⊥ = cc in no)
+  arithmetic at op.AtLeast e = absurd (let no : ⊥ = cc in no)
+  arithmetic at op.Equal e = absurd (let no : ⊥ = cc in no)
+  arithmetic at op.NotEqual e = absurd (let no : ⊥ = cc in no)
+
+  steps : (at : ℕ) (o : Op) (e : Term) → binary_type o ≡ value.Int → TermTyped f e → Suited f.types e face.Int → Steps K at o e IntType IntType
+  steps at o e b h s = (IntType, IntType, IntType, itself T IntType, given_to e face.Int h s, arithmetic at o b, itself T IntType)
+
+  changes : (to : Term) (o : Op) (e : Term) → IsTarget to → TermTyped f to → Suited f.types to face.Int → TermTyped f e → Suited f.types e face.Int
+      → binary_type o ≡ value.Int → Changes K to o e
+  changes (t.Local s x) o e i h is g q b =
+      let own = local_is x s.ty value.Int h (int_of_place (t.Local s x) is) in
+      (IntType, IntType, ap pushed own, steps s.at o e b g q, ap popped own)
+  changes (t.Field s base named) o e i h is g q b = (
+    ClassType (class_number r named.class),
+    IntType,
+    ClassType (class_number r named.class),
+    IntType,
+    ClassType (class_number r named.class),
+    (named_type r named.class, gives base (value.Named named.class) h.0 h.1, base_suits named.class (field_declared named.class named.name h.2.field h.2.found)),
+    keeps s.at named s.ty value.Int h.2 (int_of_place (t.Field s base named) is),
+    steps s.at o e b g q,
+    writes s.at named s.ty value.Int h.2 (int_of_place (t.Field s base named) is),
+    itself T (ClassType (class_number r named.class)),
+  )
+  changes (t.Static s named) o e i h is g q b =
+      let own = static_is named s.ty value.Int h (int_of_place (t.Static s named) is) in
+      (IntType, IntType, ap pushed own, steps s.at o e b g q, ap popped own)
+  changes (t.Const s l) o e i h is g q b = absurd i
+  changes (t.This s) o e i h is g q b = absurd i
+  changes (t.New s c es) o e i h is g q b = absurd i
+  changes (t.Call s v m es) o e i h is g q b = absurd i
+  changes (t.CallStatic s m es) o e i h is g q b = absurd i
+  changes (t.Unknown s k es) o e i h is g q b = absurd i
+  changes (t.UnknownField s v k) o e i h is g q b = absurd i
+  changes (t.UnknownCall s v k es) o e i h is g q b = absurd i
+  changes (t.Unary s u a) o e i h is g q b = absurd i
+  changes (t.And s a c) o e i h is g q b = absurd i
+  changes (t.Or s a c) o e i h is g q b = absurd i
+  changes (t.Binary s u a c) o e i h is g q b = absurd i
+
+  no_type : (o : Option ValueType) (b : Bool) → b ≡ is_some o → b ≡ false → o ≡ None
+  no_type None b e g = refl
+  no_type (Some v) b e g = absurd (let no : ⊥ = cc in no)
+
+  runs : (e : Term) → TermTyped f e → has_value e ≡ false → Runs K e
+  runs (t.Call s b m es) h none = (
+    named_type r m.class,
+    param_types r h.2.0.method.params,
+    (named_type r m.class, gives b (value.Named m.class) h.0 h.1, itself T (named_type r m.class)),
+    gives_all h.2.0.method.params es h.2.1,
+    calls s.at m.class m.name (count es) h.2.0.method h.2.0.found h.2.0.kind
+    ∙ ap (method_gives m.class h.2.0.method.params) (sym h.2.0.gives ∙ no_type s.ty m.has_result h.2.0.told none),
+  )
+  runs (t.CallStatic s m es) h none = (
+    param_types r h.0.method.params,
+    gives_all h.0.method.params es h.1,
+    calls_static s.at m.class m.name (count es) h.0.method h.0.found h.0.kind
+    ∙ ap (static_gives h.0.method.params) (sym h.0.gives ∙ no_type s.ty m.has_result h.0.told none),
+  )
+  runs (t.Const s l) h none = absurd (let no : ⊥ = cc in no)
+  runs (t.This s) h none = absurd (let no : ⊥ = cc in no)
+  runs (t.Local s x) h none = absurd (let no : ⊥ = cc in no)
+  runs (t.Field s b named) h none = absurd (let no : ⊥ = cc in no)
+  runs (t.Static s named) h none = absurd (let no : ⊥ = cc in no)
+  runs (t.New s c es) h none = absurd (let no : ⊥ = cc in no)
+  runs (t.Unknown s k es) h none = absurd h
+  runs (t.UnknownField s b k) h none = absurd h
+  runs (t.UnknownCall s b k es) h none = absurd h
+  runs (t.Unary s o a) h none = absurd (let no : ⊥ = cc in no)
+  runs (t.And s a b) h none = absurd (let no : ⊥ = cc in no)
+  runs (t.Or s a b) h none = absurd (let no : ⊥ = cc in no)
+  runs (t.Binary s o a b) h none = absurd (let no : ⊥ = cc in no)
+
+  drops : (e : Term) → TermTyped f e → (o : Option ValueType) → type_in e ≡ o → is_some o ≡ true → Drops K e
+  drops e h None is some = absurd (let no : ⊥ = cc in no)
+  drops e h (Some v) is some = (AnyType, (value_type r v, gives e v h is, suits_any T (value_type r v)), refl)
+
+  performs : (e : Term) → TermTyped f e → (b : Bool) → has_value e ≡ b → Chosen b (Drops K e) (Runs K e)
+  performs e h true is = drops e h (type_in e) refl (typed-gives f e h is)
+  performs e h false is = runs e h is
+
+  starts : (e : Term) → TermTyped f e → (o : Option ValueType) → type_in e ≡ o → given_starts f.types o ≡ true → GivenTo K e RunnableType
+  starts e h None is s = absurd (let no : ⊥ = cc in no)
+  starts e h (Some v) is s = (value_type r v, gives e v h is, starting p T r f.types n v s)
+
+  locked : (e : Term) → TermTyped f e → (o : Option ValueType) → type_in e ≡ o → given_locks o ≡ true → GivenTo K e ObjectType
+  locked e h None is s = absurd (let no : ⊥ = cc in no)
+  locked e h (Some v) is s = (value_type r v, gives e v h is, locks T r v s)
+
+  class_there : (c : Name) → is_declared f.types c ≡ true → is_some (slice_get p.classes (class_number r c)) ≡ true
+  class_there c d = let h = n.declared c d in ap (λ (o : Option ℕ). is_some (slice_get p.classes (or_zero o))) h.is ∙ h.there
+
+  mutual
+    pub fits : (varies : ℕ → Bool) (s : Statement) → StatementTyped f s → Fits K varies s
+    fits varies (t.Block ss) h = fits_all varies ss h
+    fits varies (t.Declare q x ty e) h = (value_type r ty, given_as e ty h.1 h.2, ap popped (local_is x (Some ty) ty h.0 refl))
+    fits varies (t.Assign to e) h = assigns to e h.0 h.1 h.2 h.3
+    fits varies (t.Compound to o e) h = changes to o e h.0 h.1 h.2 h.3 h.4 h.5
+    fits varies (t.Perform e) h = performs e h (has_value e) refl
+    fits varies (t.Start q e) h = (RunnableType, starts e h.0 (type_in e) refl h.1, refl)
+    fits varies (t.If e a b) h = (given_to e face.Bool h.0 h.1, fits varies a h.2, fits varies b h.3)
+    fits varies (t.While e a) h = (given_to e face.Bool h.0 h.1, fits varies a h.2)
+    fits varies (t.Sync e a) h = (locked e h.0 (type_in e) refl h.1, fits varies a h.2)
+    fits varies (t.SyncClass q c a) h = (class_there c h.0, fits varies a h.1)
+    fits varies (t.Return q) h = refl
+    fits varies (t.ReturnValue q e) h = (value_type r h.0, given_as e h.0 h.2 h.3, ap returned (result ∙ ap (result_type r) h.1))
+
+    pub fits_all : (varies : ℕ → Bool) (ss : Statements) → StatementsTyped f ss → FitsAll K varies ss
+    fits_all varies t.no_statements h = tt
+    fits_all varies (t.statement s ss) h = (fits varies s h.0, fits_all varies ss h.1)
