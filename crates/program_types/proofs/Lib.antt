@@ -1,2 +1,3 @@
 mod Suiting
 mod Giving
+mod Trees

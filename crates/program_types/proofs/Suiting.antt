@@ -70,7 +70,7 @@ refers_any T os (val.Str x) e = refl
 refers_any T os val.Null e = refl
 refers_any T os (val.Ref r) e = e
 
-class_object : (T : Types) (c : ℕ) → Suits T (ClassType c) ObjectType
+pub class_object : (T : Types) (c : ℕ) → Suits T (ClassType c) ObjectType
 class_object T c os v h = refers_wider os v (is_of T c) is_object (of_is_object T c) h
 
 run_object : (T : Types) → Suits T RunnableType ObjectType
