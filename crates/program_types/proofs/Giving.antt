@@ -1,6 +1,6 @@
 -- Typed expressions give values of their types, and typed statements fit.
-use Rattle.std.proofs.Common.{◌≡◌, ℕ, zero, suc, ◌+◌, Bool, true, false, List, [], ◌∷◌, Option, Some, None, refl, sym, ◌∙◌, ap, subst, codes, cond, reverse, map, slice_get, length, ◌||◌, ◌&&◌, if◌then◌else◌}
-use Rattle.std.specs.Prelude.{is_some, nat_lt, ◌==◌}
+use Rattle.std.proofs.Common.{◌≡◌, ℕ, Bool, true, false, List, [], ◌∷◌, Option, Some, None, refl, sym, ◌∙◌, ap, subst, codes, reverse, slice_get, length, ◌||◌, ◌&&◌, if◌then◌else◌}
+use Rattle.std.specs.Prelude.{is_some, ◌==◌}
 use Rattle.std.specs.Str.{bytes_eq}
 use Rattle.std.specs.Option.{option_map, option_to_list}
 use Rattle.std.proofs.lemmas.Option.{slice_get-map}
@@ -10,7 +10,6 @@ use Rattle.class_faces.specs.declared.face.FaceTy.TheVariants as face
 use Rattle.class_faces.specs.declared.face.FieldFace.{FieldFace}
 use Rattle.class_faces.specs.declared.face.ParamFace.{ParamFace}
 use Rattle.bound_tree.specs.declared.name.FieldName.{FieldName}
-use Rattle.bound_tree.specs.declared.name.MemberName.{MemberName}
 use Rattle.bound_tree.specs.declared.name.ValueType.{ValueType}
 use Rattle.bound_tree.specs.declared.name.ValueType.TheVariants as value
 use Rattle.bound_tree.specs.declared.tree.Literal.{Literal}
@@ -27,10 +26,10 @@ use Rattle.core_model.specs.declared.program.TheConstants.{RUN}
 use Rattle.core_model.specs.declared.instr.Known.{Known}
 use Rattle.core_model.specs.declared.instr.Known.TheVariants as known
 use Rattle.expression_binding.specs.Methods.{NamedMethod, method_in, is_run, run_method, face_method, is_made, maker, maker_params}
-use Rattle.typed_units.specs.Named.{IsField, IsMethod}
+use Rattle.typed_units.specs.Named.{IsField}
 use Rattle.core_types.specs.Types.{Ty, IntType, BoolType, TextType, NullType, of_class, ObjectType, RunnableType, ClassType, AnyType, Types, UnitTypes, locals_of}
 use Rattle.core_types.specs.Belonging.{Suits}
-use Rattle.core_types.specs.Slots.{Use, Goes, Leaves, Wrong}
+use Rattle.core_types.specs.Slots.{Use, Goes, Wrong}
 use Rattle.core_types.specs.Uses.{pushed, popped, returned, of_field, field_read, field_kept, field_written, of_call}
 use Rattle.lowering.specs.Numbers.{Numbers, class_number, class_known, or_zero}
 use Rattle.lowering.specs.declared.instr.Constant.TheVariants as constant
@@ -41,12 +40,12 @@ use Rattle.lowering.specs.Kinds.{types_asked}
 use Rattle.name_rules.specs.Types.{Name, is_declared, suits}
 use Rattle.name_rules.specs.Types as rules
 use Rattle.expression_binding.specs.Stamps.{type_of, type_given, judged_type}
-use Rattle.typed_units.specs.Frames.{Frame, IsLocal, Suited, Compared, given_suits, given_compares, given_starts, given_locks, declared_as, type_in}
+use Rattle.typed_units.specs.Frames.{Frame, IsLocal, Suited, given_suits, given_compares, given_starts, given_locks, declared_as, type_in}
 use Rattle.typed_units.specs.Statements.{StatementTyped, StatementsTyped, SuitsGiven, IsTarget}
-use Rattle.typed_units.specs.Terms.{TermTyped, TermsTyped, UnaryFits, BinaryFits, literal_type, binary_type}
+use Rattle.typed_units.specs.Terms.{TermTyped, TermsTyped, BinaryFits, literal_type, binary_type}
 use Rattle.typed_units.proofs.Giving.{typed-gives}
-use Rattle.program_types.specs.Types.{param_type, value_type, value_types, result_type, named_type, param_types, field_type}
-use Rattle.program_types.specs.Numbering.{HasClass, NumbersFit}
+use Rattle.program_types.specs.Types.{param_type, value_type, value_types, result_type, named_type, param_types}
+use Rattle.program_types.specs.Numbering.{NumbersFit}
 use Rattle.program_types.proofs.Suiting.{itself, suits_any, suiting, starting, locks, named_declared, named_runnable, and_first, and_second}
 
 -- the type of what suits a place
@@ -120,7 +119,7 @@ module _ (p : Program) (T : Types) (u : UnitTypes) (r : Numbers) (f : Frame) (n 
 
   keeps : (at : ℕ) (named : FieldName) (ty : Option ValueType) (v : ValueType) (h : IsField f.types false named ty) → ty ≡ Some v
       → Turns K (classed at named.class) (plain.FieldKeep named.name) (ClassType (class_number r named.class) ∷ [])
-        (value_type r v ∷ ClassType (class_number r named.class) ∷ [])
+      (value_type r v ∷ ClassType (class_number r named.class) ∷ [])
   keeps at named ty v h is =
       ap (λ (k : Known). of_field field_kept T k (r.field named.class named.name)) (known_class named.class (field_declared named.class named.name h.field h.found))
       ∙ ap (field_kept (class_number r named.class)) (field_is named ty v h is)
@@ -169,7 +168,7 @@ module _ (p : Program) (T : Types) (u : UnitTypes) (r : Numbers) (f : Frame) (n 
           ap (λ (b : Bool). used K (plainly at) (if b then plain.MakePlain else plain.Make c k)) e
           ∙ ap (λ (ps : List ParamFace). Goes (reverse (param_types r ps)) (ObjectType ∷ [])) (sym (bare c e))
           ∙ ap (λ (s : Ty). Goes (reverse (param_types r (maker_params (maker f.types c)))) (s ∷ []))
-            (sym (ap (λ (b : Bool). if b then ObjectType else (if rules.is_string c then TextType else (if rules.is_runnable c then RunnableType else ClassType (class_number r c)))) e))
+          (sym (ap (λ (b : Bool). if b then ObjectType else (if rules.is_string c then TextType else (if rules.is_runnable c then RunnableType else ClassType (class_number r c)))) e))
       go false e =
           ap (λ (b : Bool). used K (plainly at) (if b then plain.MakePlain else plain.Make c k)) e
           ∙ n.makes c k h e
@@ -196,21 +195,21 @@ module _ (p : Program) (T : Types) (u : UnitTypes) (r : Numbers) (f : Frame) (n 
       ∙ ap (λ (m : ℕ). if (m == RUN) && (k == 0) then Goes (RunnableType ∷ []) [] else Wrong) (ap r.member name_is ∙ n.run)
       ∙ ap (λ (b : Bool). if b then Goes (RunnableType ∷ []) [] else Wrong) none
       ∙ ap (λ (s : Ty). Goes (s ∷ []) []) (sym (named_runnable r c runnable))
-      where
-        runnable : rules.is_runnable c ≡ true
-        runnable = and_first (rules.is_runnable c) (bytes_eq name (codes "run") && (k == 0)) h
+    where
+      runnable : rules.is_runnable c ≡ true
+      runnable = and_first (rules.is_runnable c) (bytes_eq name (codes "run") && (k == 0)) h
 
-        rest : (bytes_eq name (codes "run") && (k == 0)) ≡ true
-        rest = and_second (rules.is_runnable c) (bytes_eq name (codes "run") && (k == 0)) h
+      rest : (bytes_eq name (codes "run") && (k == 0)) ≡ true
+      rest = and_second (rules.is_runnable c) (bytes_eq name (codes "run") && (k == 0)) h
 
-        class_is : c ≡ codes "Runnable"
-        class_is = (bytes_eq-Decides c (codes "Runnable")).0 runnable
+      class_is : c ≡ codes "Runnable"
+      class_is = (bytes_eq-Decides c (codes "Runnable")).0 runnable
 
-        name_is : name ≡ codes "run"
-        name_is = (bytes_eq-Decides name (codes "run")).0 (and_first (bytes_eq name (codes "run")) (k == 0) rest)
+      name_is : name ≡ codes "run"
+      name_is = (bytes_eq-Decides name (codes "run")).0 (and_first (bytes_eq name (codes "run")) (k == 0) rest)
 
-        none : (k == 0) ≡ true
-        none = and_second (bytes_eq name (codes "run")) (k == 0) rest
+      none : (k == 0) ≡ true
+      none = and_second (bytes_eq name (codes "run")) (k == 0) rest
 
   calls : (at : ℕ) (c name : Name) (k : ℕ) (m : NamedMethod) → method_in f.types c name k ≡ Some m → m.is_static ≡ false
       → used K (classed at c) (plain.Call name k) ≡ gives_of_method c m
@@ -263,8 +262,7 @@ module _ (p : Program) (T : Types) (u : UnitTypes) (r : Numbers) (f : Frame) (n 
       → used K (plainly s.at) (plain.Op o) ≡ Goes (IntType ∷ IntType ∷ []) (to ∷ []) → Gives K (t.Binary s o a b) to
   ints s o a b to h i ha hb turns =
       let g = suited f.types a face.Int ha in
-      let j = suited f.types b face.Int hb in
-      (
+      let j = suited f.types b face.Int hb in (
         value_type r g.own,
         IntType,
         value_type r j.own,
@@ -368,8 +366,7 @@ module _ (p : Program) (T : Types) (u : UnitTypes) (r : Numbers) (f : Frame) (n 
     gives_all : (params : List ParamFace) (es : Terms) → TermsTyped f params es → GivesAll K es (param_types r params)
     gives_all params t.no_terms h = ap (param_types r) h
     gives_all params (t.term e es) h =
-        let g = suited f.types e h.0.ty h.4 in
-        (
+        let g = suited f.types e h.0.ty h.4 in (
           value_type r g.own,
           param_type r h.0,
           param_types r h.1,
@@ -491,13 +488,13 @@ module _ (p : Program) (T : Types) (u : UnitTypes) (r : Numbers) (f : Frame) (n 
     (named_type r m.class, gives b (value.Named m.class) h.0 h.1, itself T (named_type r m.class)),
     gives_all h.2.0.method.params es h.2.1,
     calls s.at m.class m.name (count es) h.2.0.method h.2.0.found h.2.0.kind
-    ∙ ap (method_gives m.class h.2.0.method.params) (sym h.2.0.gives ∙ no_type s.ty m.has_result h.2.0.told none),
+        ∙ ap (method_gives m.class h.2.0.method.params) (sym h.2.0.gives ∙ no_type s.ty m.has_result h.2.0.told none),
   )
   runs (t.CallStatic s m es) h none = (
     param_types r h.0.method.params,
     gives_all h.0.method.params es h.1,
     calls_static s.at m.class m.name (count es) h.0.method h.0.found h.0.kind
-    ∙ ap (static_gives h.0.method.params) (sym h.0.gives ∙ no_type s.ty m.has_result h.0.told none),
+        ∙ ap (static_gives h.0.method.params) (sym h.0.gives ∙ no_type s.ty m.has_result h.0.told none),
   )
   runs (t.Const s l) h none = absurd (let no : ⊥ = cc in no)
   runs (t.This s) h none = absurd (let no : ⊥ = cc in no)

@@ -1,5 +1,5 @@
 -- What suits by names suits by numbers.
-use Rattle.std.proofs.Common.{◌≡◌, ℕ, Bool, true, false, ◌||◌, List, [], ◌∷◌, Option, Some, None, if◌then◌else◌, refl, sym, ◌∙◌, ap, subst, codes, arith, ◌&&◌, cond, slice_get, ◌==◌, eq-eqb}
+use Rattle.std.proofs.Common.{◌≡◌, ℕ, Bool, true, false, ◌||◌, List, [], Option, Some, None, if◌then◌else◌, refl, sym, ◌∙◌, ap, subst, codes, arith, ◌&&◌, slice_get, ◌==◌}
 use Rattle.std.specs.Prelude.{is_some, not}
 use Rattle.std.specs.Str.{bytes_eq}
 use Rattle.std.proofs.lemmas.Slice.Eq.{bytes_eq-Decides}
@@ -17,14 +17,13 @@ use Rattle.core_model.specs.declared.value.Value.TheVariants as val
 use Rattle.core_laws.specs.Shape.{kind_of}
 use Rattle.core_types.specs.Types.{Ty, IntType, BoolType, TextType, NullType, ObjectType, RunnableType, ClassType, AnyType, Types, of_class, has}
 use Rattle.core_types.specs.Types as core
-use Rattle.core_types.specs.Belonging.{Belongs, Suits, if_kind, refers, is_object, may_run, is_of, is_null}
+use Rattle.core_types.specs.Belonging.{Belongs, Suits, if_kind, refers, is_object, may_run, is_of}
 use Rattle.lowering.specs.Numbers.{Numbers, class_number}
 use Rattle.name_rules.specs.Types.{Name, is_built_in, suits, class_suits, has_monitor, can_start, is_class, is_declared, is_interface, implements, lists_interface, is_object_kind}
 use Rattle.name_rules.specs.Types as rules
 use Rattle.expression_binding.specs.Stamps.{type_of, judged_type}
-use Rattle.typed_units.specs.Frames.{given_suits, given_locks, given_starts, given_compares}
 use Rattle.program_types.specs.Types.{named_type, value_type}
-use Rattle.program_types.specs.Numbering.{HasClass, NumbersFit}
+use Rattle.program_types.specs.Numbering.{NumbersFit}
 
 -- ---- tests
 

@@ -1,11 +1,10 @@
 -- The trees of typed units are typed by numbers.
-use Rattle.std.proofs.Common.{◌≡◌, ℕ, Bool, true, false, List, [], ◌∷◌, ◌++◌, Option, Some, None, refl, sym, ◌∙◌, ap, subst, map, slice_get, append_assoc}
+use Rattle.std.proofs.Common.{◌≡◌, ℕ, Bool, true, false, List, [], ◌∷◌, ◌++◌, Option, Some, None, refl, sym, ◌∙◌, ap, subst, map, slice_get}
 use Rattle.std.specs.Prelude.{is_some}
 use Rattle.std.proofs.lemmas.List.{map-append}
 use Rattle.class_faces.specs.declared.face.ParamFace.{ParamFace}
 use Rattle.class_faces.specs.declared.face.MemberFace.{MemberFace}
 use Rattle.bound_tree.specs.declared.name.ValueType.{ValueType}
-use Rattle.bound_tree.specs.declared.name.ValueType.TheVariants as value
 use Rattle.bound_tree.specs.declared.unit.Body.{Body}
 use Rattle.bound_tree.specs.declared.unit.Part.{Part}
 use Rattle.bound_tree.specs.declared.unit.Part.TheVariants as part
@@ -14,18 +13,18 @@ use Rattle.bound_tree.specs.Reading.{statement_of}
 use Rattle.bound_unit.specs.Names.{Faces}
 use Rattle.bound_unit.specs.UnitFacts.{UnitFacts}
 use Rattle.core_model.specs.declared.program.Program.{Program}
-use Rattle.core_types.specs.Types.{Ty, BoolType, ObjectType, ClassType, Types, UnitTypes, locals_of, args_of}
+use Rattle.core_types.specs.Types.{Ty, BoolType, ClassType, Types, UnitTypes, locals_of}
 use Rattle.lowering.specs.Numbers.{Numbers, class_number, or_zero}
-use Rattle.lowering.specs.Operands.{Kind, Enters, SigFits, PartFits}
+use Rattle.lowering.specs.Operands.{Enters, SigFits, PartFits}
 use Rattle.lowering.specs.Kinds.{types_asked, IsTyped}
 use Rattle.name_rules.specs.Types.{Name, is_declared}
 use Rattle.name_rules.specs.Types as rules
 use Rattle.typed_units.specs.Declared.{this_types, args_types, declared_types}
 use Rattle.typed_units.specs.Declared as declared
-use Rattle.typed_units.specs.Units.{TypedUnit, CodeTyped, BodyTyped, PartTyped, frame_of, locals_in}
+use Rattle.typed_units.specs.Units.{TypedUnit, BodyTyped, PartTyped, frame_of, locals_in}
 use Rattle.unit_rules.specs.Shown.{types_shown}
-use Rattle.program_types.specs.Types.{value_type, value_types, result_type, named_type, param_type, param_types, params_in, this_type, part_types}
-use Rattle.program_types.specs.Numbering.{HasClass, NumbersFit}
+use Rattle.program_types.specs.Types.{value_type, value_types, result_type, param_type, param_types, params_in, this_type, part_types}
+use Rattle.program_types.specs.Numbering.{NumbersFit}
 use Rattle.program_types.proofs.Suiting.{itself, class_object, named_declared}
 use Rattle.program_types.proofs.Giving.{fits}
 
@@ -65,7 +64,7 @@ module _ (p : Program) (T : Types) (r : Numbers) (types : rules.Types) (n : Numb
   body_typed params b h = (
     enters (param_types r params) (value_types r (declared_types (statement_of b.block))) (result_type r b.result) b.is_synchronized b.is_static,
     fits p T (part_types r c params (part.Body b)) r (frame_of types c params b) n (locals_are params b) refl (varies_of (statement_of b.block))
-      (statement_of b.block) h.code,
+        (statement_of b.block) h.code,
   )
 
 sig_typed : (p : Program) (T : Types) (u : UnitTypes) (r : Numbers) (o : Option ValueType) → SigFits (types_asked p T u r) o

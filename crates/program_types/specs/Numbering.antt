@@ -1,5 +1,5 @@
 -- What the numbers of a program say of the types that are declared: by them each name stands for what it names.
-use Rattle.std.specs.Prelude.{◌≡◌, ℕ, Bool, true, false, List, ◌∷◌, [], Option, Some, None, codes, reverse, is_some}
+use Rattle.std.specs.Prelude.{◌≡◌, ℕ, true, false, ◌∷◌, [], Some, None, codes, reverse, is_some}
 use Rattle.std.specs.List.{slice_get}
 use Rattle.std.specs.Option.{option_to_list}
 use Rattle.core_model.specs.declared.program.Program.{Program}
@@ -7,7 +7,7 @@ use Rattle.core_model.specs.declared.program.TheConstants.{RUN}
 use Rattle.core_model.specs.declared.instr.Known.TheVariants as known
 use Rattle.core_types.specs.Types.{Ty, ClassType, Types, of_class, has}
 use Rattle.core_types.specs.Types as core
-use Rattle.core_types.specs.Uses.{Use, Goes, of_make, of_call, called_static, unless_new}
+use Rattle.core_types.specs.Uses.{Goes, of_make, of_call, called_static, unless_new}
 use Rattle.core_model.specs.Units.{unit_number}
 use Rattle.class_faces.specs.declared.face.FieldFace.{FieldFace}
 use Rattle.lowering.specs.Numbers.{Numbers, class_number}
@@ -40,11 +40,11 @@ pub record NumbersFit (p : Program) (T : Types) (r : Numbers) (types : rules.Typ
       → slice_get (of_class T (class_number r c)).statics (r.field c name) ≡ Some (field_type r f)
   pub makes : (c : Name) (n : ℕ) → is_made types c n ≡ true → is_object c ≡ false
       → of_make p T (class_number r c) n (slice_get p.classes (class_number r c))
-        ≡ Goes (reverse (param_types r (maker_params (maker types c)))) (ClassType (class_number r c) ∷ [])
+      ≡ Goes (reverse (param_types r (maker_params (maker types c)))) (ClassType (class_number r c) ∷ [])
   pub calls : (c name : Name) (n : ℕ) (m : NamedMethod) → is_declared types c ≡ true → method_in types c name n ≡ Some m → m.is_static ≡ false
       → of_call p T (known.Class (class_number r c)) (r.member name) n
-        ≡ Goes (reverse (ClassType (class_number r c) ∷ param_types r m.params)) (option_to_list (result_type r (type_given m.result)))
+      ≡ Goes (reverse (ClassType (class_number r c) ∷ param_types r m.params)) (option_to_list (result_type r (type_given m.result)))
   pub calls_static : (c name : Name) (n : ℕ) (m : NamedMethod) → is_declared types c ≡ true → method_in types c name n ≡ Some m → m.is_static ≡ true
       → unless_new (r.member name) (called_static T (unit_number p (class_number r c) (r.member name) n))
-        ≡ Goes (reverse (param_types r m.params)) (option_to_list (result_type r (type_given m.result)))
+      ≡ Goes (reverse (param_types r m.params)) (option_to_list (result_type r (type_given m.result)))
   pub run : r.member (codes "run") ≡ RUN
