@@ -38,7 +38,7 @@ module _ (p : Program) (T : Types) (r : Numbers) (types : rules.Types) (n : Numb
   params_are (x ∷ xs) = ap (λ (s : List Ty). param_type r x ∷ s) (params_are xs)
 
   -- `this` and the parameters
-  args_are : (b : Bool) (params : List ParamFace) → this_type r b c ++ param_types r params ≡ value_types r (args_types b c params)
+  pub args_are : (b : Bool) (params : List ParamFace) → this_type r b c ++ param_types r params ≡ value_types r (args_types b c params)
   args_are b params =
       ap (λ (s : List Ty). s ++ param_types r params) (this_is b)
       ∙ ap (λ (s : List Ty). value_types r (this_types b c) ++ s) (params_are params)
@@ -71,7 +71,7 @@ sig_typed : (p : Program) (T : Types) (u : UnitTypes) (r : Numbers) (o : Option 
 sig_typed p T u r None = tt
 sig_typed p T u r (Some ty) = (BoolType, refl, itself T BoolType)
 
-part_typed : (p : Program) (T : Types) (r : Numbers) (faces : Faces) (c key : Name) → NumbersFit p T r (types_shown faces) → is_declared (types_shown faces) c ≡ true
+pub part_typed : (p : Program) (T : Types) (r : Numbers) (faces : Faces) (c key : Name) → NumbersFit p T r (types_shown faces) → is_declared (types_shown faces) c ≡ true
     → (w : Part) → PartTyped faces c key w
     → PartFits (types_asked p T (part_types r c (params_in (rules.member_in key (types_shown faces c))) w) r) c w
 part_typed p T r faces c key n own (part.Header names) h = tt

@@ -3,7 +3,9 @@ use Rattle.core_model.specs.declared.program.Program.{Program}
 use Rattle.core_types.specs.Types.{Types, UnitTypes, locals_of}
 use Rattle.std.specs.Prelude.{◌≡◌, ℕ, Bool}
 use Rattle.bound_tree.specs.Tree.{Statement}
-use Rattle.lowering.specs.Numbers.{Numbers}
+use Rattle.lowering.specs.Lower.{code_of}
+use Rattle.lowering.specs.Numbers.{Numbers, numbered}
+use Rattle.program_types.specs.Codes.{CodeFits}
 use Rattle.lowering.specs.Operands.{Fits}
 use Rattle.lowering.specs.Kinds.{types_asked, IsTyped}
 use Rattle.name_rules.specs.Types as rules
@@ -27,3 +29,9 @@ abbrev pub UnitsFitNumbers : Type 0
 UnitsFitNumbers = (p : Program) (T : Types) (r : Numbers) (faces : Faces) (u : UnitFacts)
     → NumbersFit p T r (types_shown faces) → TypedUnit faces u
     → IsTyped p T (part_types r u.tree.class (params_in (rules.member_in u.key (types_shown faces u.tree.class))) u.tree.part) r u.tree
+
+-- and its code is that of a well typed program
+abbrev pub CodeFitsNumbers : Type 0
+CodeFitsNumbers = (p : Program) (T : Types) (r : Numbers) (faces : Faces) (u : UnitFacts)
+    → NumbersFit p T r (types_shown faces) → TypedUnit faces u → u.code ≡ code_of u.tree
+    → CodeFits p T (part_types r u.tree.class (params_in (rules.member_in u.key (types_shown faces u.tree.class))) u.tree.part) (numbered r u.code)
