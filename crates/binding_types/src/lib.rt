@@ -1,0 +1,2 @@
+//! Units that are bound without findings are typed.
+#![tactic(auto)]

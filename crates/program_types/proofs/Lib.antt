@@ -1,0 +1,4 @@
+mod Suiting
+mod Giving
+mod Trees
+mod Coding

@@ -1,0 +1,4 @@
+pub mod Types
+pub mod Numbering
+pub mod Codes
+pub mod Laws
