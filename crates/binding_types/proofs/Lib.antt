@@ -1,0 +1,5 @@
+pub mod Silences
+pub mod Lookups
+pub mod Fitting
+pub mod Uses
+pub mod Names
