@@ -26,7 +26,7 @@ use Rattle.name_rules.specs.Places.{AnyValue, use_of, use_notes, judged}
 use Rattle.expression_binding.specs.Stamps.{used, type_of, sound, faulty}
 use Rattle.expression_binding.specs.Before.{Before, OnType, OnValue, first_of, is_lost, is_misuse, class_before, class_of, class_of_value}
 use Rattle.expression_binding.specs.Fields.{NamedField, field_name, named_field, face_field, field_named}
-use Rattle.expression_binding.specs.Bound.{Ground, Bound, constant, unknown, this_of, this_at, is_out_of_place, own_field, own_field_term, variable, meant, meaning_of, fit, before_by, type_before, field_use, field_term, field_made, field_told, select_term, select_notes}
+use Rattle.expression_binding.specs.Bound.{Ground, Bound, Based, constant, unknown, this_of, this_at, is_out_of_place, own_field, own_field_term, variable, meant, meaning_of, fit, before_by, type_before, field_use, field_term, field_made, field_told, select_term, select_notes}
 use Rattle.typed_units.specs.Frames.{Frame, type_in}
 use Rattle.typed_units.specs.Named as named
 use Rattle.typed_units.specs.Standing.{TypesStand}
@@ -127,9 +127,12 @@ abbrev pub BaseSound : Frame → Before → Type 0
 BaseSound f (OnType c at) = Unit {0}
 BaseSound f (OnValue v) = SoundAt f AnyValue v
 
-type-base : (f : Frame) (at : ℕ) (name : Name) (b : Bool) →
-    Silent (if b then record { base = OnType name at; notes = Names name ∷ [] } else record { base = OnValue (t.Unknown (faulty at at) name no_terms); notes = Names name ∷ Finding code.UnboundName at ∷ [] }).notes
-    → BaseSound f (if b then record { base = OnType name at; notes = Names name ∷ [] } else record { base = OnValue (t.Unknown (faulty at at) name no_terms); notes = Names name ∷ Finding code.UnboundName at ∷ [] }).base
+abbrev based_if : Bool → ℕ → Name → Based
+based_if b at name =
+    if b then record { base = OnType name at; notes = Names name ∷ [] }
+    else record { base = OnValue (t.Unknown (faulty at at) name no_terms); notes = Names name ∷ Finding code.UnboundName at ∷ [] }
+
+type-base : (f : Frame) (at : ℕ) (name : Name) (b : Bool) → Silent (based_if b at name).notes → BaseSound f (based_if b at name).base
 type-base f at name true s = tt
 type-base f at name false s = absurd s
 
