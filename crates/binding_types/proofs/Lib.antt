@@ -6,3 +6,5 @@ pub mod Names
 pub mod Calls
 pub mod Operators
 pub mod Expressions
+pub mod Placing
+pub mod Numbering

@@ -1,2 +1,4 @@
 pub mod Silent
 pub mod Grounds
+pub mod Written
+pub mod Placed
