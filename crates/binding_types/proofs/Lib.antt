@@ -8,3 +8,4 @@ pub mod Operators
 pub mod Expressions
 pub mod Placing
 pub mod Numbering
+pub mod Actions

@@ -13,7 +13,9 @@ use Rattle.bound_tree.specs.Tree.{Statement}
 use Rattle.bound_tree.specs.Tree as t
 use Rattle.name_rules.specs.Scopes.{Scope}
 use Rattle.expression_binding.specs.Bound.{Ground}
-use Rattle.statement_binding.specs.declared.locals.Locals.{Locals}
+use Rattle.binding_types.specs.Under.{Locals}
+use Rattle.expression_binding.specs.Stamps.{type_of}
+use Rattle.statement_binding.specs.Locals.{local_type}
 use Rattle.statement_binding.specs.Finals.{Written}
 use Rattle.statement_binding.specs.Writes.{action, top_action, by_sign, by_top_sign}
 use Rattle.statement_binding.specs.Heads.{first_done, behind_first, last_done, locked_by, held_by, returned, condition_if_any}
@@ -58,7 +60,7 @@ last_types g scope (Some does) = ap (λ (l : List ValueType). l ++ []) (action_d
 pub loop_types : (g : Ground) (ls : Locals) (f : PlainFirst) (w : Statement) → all_declared (reading.statements ((first_done g ls f).made ++ w ∷ []))
     ≡ all_declared (reading.statements (first_done g ls f).made) ++ declared_types w
 loop_types g ls p.Nothing w = append-nil (declared_types w)
-loop_types g ls (p.FirstLocal l) w = ap (λ (r : List ValueType). _ ∷ r) (append-nil (declared_types w))
+loop_types g ls (p.FirstLocal l) w = ap (λ (r : List ValueType). type_of (local_type l) ∷ r) (append-nil (declared_types w))
 loop_types g ls (p.FirstAction does) w =
     ap (λ (a : List ValueType). a ++ (declared_types w ++ [])) (action_declares g ls.scope does) ∙ append-nil (declared_types w)
     ∙ sym (ap (λ (a : List ValueType). (a ++ []) ++ declared_types w) (action_declares g ls.scope does))

@@ -2,3 +2,4 @@ pub mod Silent
 pub mod Grounds
 pub mod Written
 pub mod Placed
+pub mod Under
