@@ -144,7 +144,7 @@ target_is g locals result scope p x h typed =
 
 -- ---- the type of a target
 
-declared_type : (ty : FaceTy) (types : Types) → is_known types ty ≡ true → is_known types (declared_as (type_of ty)) ≡ true
+pub declared_type : (ty : FaceTy) (types : Types) → is_known types ty ≡ true → is_known types (declared_as (type_of ty)) ≡ true
 declared_type face.Int types h = refl
 declared_type face.Bool types h = refl
 declared_type face.Args types h = refl

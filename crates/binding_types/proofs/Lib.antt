@@ -9,3 +9,6 @@ pub mod Expressions
 pub mod Placing
 pub mod Numbering
 pub mod Actions
+pub mod Known
+pub mod Typing
+pub mod Tops
