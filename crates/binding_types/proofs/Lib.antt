@@ -12,3 +12,4 @@ pub mod Actions
 pub mod Known
 pub mod Typing
 pub mod Tops
+pub mod Keeping

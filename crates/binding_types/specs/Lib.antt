@@ -3,3 +3,4 @@ pub mod Grounds
 pub mod Written
 pub mod Placed
 pub mod Under
+pub mod Named
