@@ -2,7 +2,7 @@
 use Rattle.std.proofs.Common.{◌≡◌, ℕ, suc, ◌==◌, refl, ap, sym, ◌∙◌, subst, Bool, true, false, ◌||◌, if◌then◌else◌, List, [], ◌∷◌, ◌++◌, drop, Option, Some, None, bytes_eq}
 use Rattle.std.specs.Prelude.{codes}
 use Rattle.std.specs.List.{AllByRecursion}
-use Rattle.class_faces.specs.declared.face.FaceTy.{FaceTy}
+use Rattle.class_faces.specs.declared.face.FaceTy.TheVariants as face
 use Rattle.class_faces.specs.declared.face.FieldFace.{FieldFace}
 use Rattle.class_faces.specs.declared.face.ParamFace.{ParamFace}
 use Rattle.result_records.specs.declared.code.FindingCode.{FindingCode}
@@ -215,8 +215,8 @@ mutual
       let m = method_named g.types (class_before b.base) w.text (count args) in
       call-keeps x g.types b.base (base-keeps x g.types (type_word g scope from) (is_paren from) (raw g scope from) (raw-keeps g scope x n from)) (suc w.at) w.text m
       (raw_all g scope (method_params m) args).terms (all-keeps g scope x n (method_params m) args) K k
-  raw-keeps g scope x n (e.Not at operand) K k = fit_keeps x g.types _ (is_paren operand) (raw g scope operand).term (raw-keeps g scope x n operand) K k
-  raw-keeps g scope x n (e.Neg at operand) K k = fit_keeps x g.types _ (is_paren operand) (raw g scope operand).term (raw-keeps g scope x n operand) K k
+  raw-keeps g scope x n (e.Not at operand) K k = fit_keeps x g.types (Of face.Bool) (is_paren operand) (raw g scope operand).term (raw-keeps g scope x n operand) K k
+  raw-keeps g scope x n (e.Neg at operand) K k = fit_keeps x g.types (Of face.Int) (is_paren operand) (raw g scope operand).term (raw-keeps g scope x n operand) K k
   raw-keeps g scope x n (e.Binary l op at r) K k =
       let a = fit g.types (left_place op) (is_paren l) (raw g scope l) in
       two-keeps x op _ a.term (fit_term g.types (right_place op (stamp_of a.term).ty) (is_paren r) (raw g scope r).term)

@@ -13,3 +13,4 @@ pub mod Known
 pub mod Typing
 pub mod Tops
 pub mod Keeping
+pub mod Passing
