@@ -5,6 +5,7 @@ use Rattle.bound_tree.proofs.Tests.{false-true}
 use Rattle.class_faces.specs.declared.face.FaceTy.{FaceTy}
 use Rattle.class_faces.specs.declared.face.FaceTy.TheVariants as face
 use Rattle.core_model.specs.declared.instr.Op.{Op}
+use Rattle.core_model.specs.declared.instr.Op.TheVariants as arithmetic
 use Rattle.java_tree.specs.declared.stmt.AssignOp.{AssignOp}
 use Rattle.java_tree.specs.declared.stmt.AssignOp.TheVariants as sign
 use Rattle.java_tree.specs.declared.stmt.StepOp.{StepOp}
@@ -116,8 +117,8 @@ changed-act g scope x n o target v h =
 
 by-sign : (g : Ground) (scope : Scope) (x : ℕ) → NotNamed g scope x → (op : AssignOp) (target v : PlainExpr) → Passes x (by_sign g scope op target v).made
 by-sign g scope x n sign.Set target v = set-act g scope x n false target v
-by-sign g scope x n sign.Add target v = changed-act g scope x n _ target (int_value g scope v) (fitted_keeps g scope x n (Of face.Int) v)
-by-sign g scope x n sign.Subtract target v = changed-act g scope x n _ target (int_value g scope v) (fitted_keeps g scope x n (Of face.Int) v)
+by-sign g scope x n sign.Add target v = changed-act g scope x n arithmetic.Add target (int_value g scope v) (fitted_keeps g scope x n (Of face.Int) v)
+by-sign g scope x n sign.Subtract target v = changed-act g scope x n arithmetic.Subtract target (int_value g scope v) (fitted_keeps g scope x n (Of face.Int) v)
 
 value-passes : (x : ℕ) (v : Term) → Keeps x v → (K : Flow) (k : Bool) → live x (in_term v K) k ≡ true → live x K k ≡ true
 value-passes x v h K k e = sym (h K k) ∙ e
@@ -198,6 +199,15 @@ while-passes x v a h i K k e =
 moved : (g : Ground) (ls : Locals) (s : PlainStmt) (x : ℕ) → IsPart s → StmtWritten s → NotNamed g ls.scope x → NotNamed g (behind ls s).scope x
 moved g ls s x part w n = subst (λ (scope : Scope). NotNamed g scope x) (sym (part_scope ls s part w)) n
 
+-- behind the first part of a `for`
+loop-passes : (g : Ground) (r : Option FaceTy) (ls : Locals) (x : ℕ) → NotNamed g ls.scope x → (at : ℕ) (test : Option PlainExpr) (last : Option PlainAction) (does : PlainStmt) → IsPart does → StmtWritten does
+    → Passes x (statement g r ls does).made
+    → Passes x (t.While (condition_if_any g ls.scope at test).term (t.Block (t.statement (statement g r ls does).made (reading.statements (last_done g (behind ls does).scope last).made))))
+loop-passes g r ls x n at test last does part w h =
+    while-passes x (condition_if_any g ls.scope at test).term (t.Block (t.statement (statement g r ls does).made (reading.statements (last_done g (behind ls does).scope last).made)))
+    (test-keeps g ls.scope x n at test)
+    (λ (L : Flow) (j : Bool) i. last-passes g (behind ls does).scope x (moved g ls does x part w n) last L j (h (in_statements (reading.statements (last_done g (behind ls does).scope last).made) L) j i))
+
 -- ---- statements
 
 mutual
@@ -213,21 +223,13 @@ mutual
       (part-passes g r ls x n does w.0 w.1) (other-passes g r (behind ls does) x (moved g ls does x w.0 w.1 n) other w.2) K k e
   part-passes g r ls x n (p.While at test does) part w K k e =
       while-passes x (condition g ls.scope test).term (statement g r ls does).made (fitted_keeps g ls.scope x n (Of face.Bool) test) (part-passes g r ls x n does w.0 w.1) K k e
-  part-passes g r ls x n (p.For at p.Nothing test last does) part w K k e = loop-passes g r ls x n (suc at) test last does w.2 w.3 K k e
+  part-passes g r ls x n (p.For at p.Nothing test last does) part w K k e = loop-passes g r ls x n (suc at) test last does w.2 w.3 (part-passes g r ls x n does w.2 w.3) K k e
   part-passes g r ls x n (p.For at (p.FirstLocal l) test last does) part w K k e =
-      let b = declaration-passes g ls l x n _ k e in loop-passes g r (with_local ls l) x b.1 (suc at) test last does w.2 w.3 K k b.0
+      let b = declaration-passes g ls l x n _ k e in loop-passes g r (with_local ls l) x b.1 (suc at) test last does w.2 w.3 (part-passes g r (with_local ls l) x b.1 does w.2 w.3) K k b.0
   part-passes g r ls x n (p.For at (p.FirstAction act) test last does) part w K k e =
-      loop-passes g r ls x n (suc at) test last does w.2 w.3 K k (action-passes g ls.scope x n act _ k e)
+      loop-passes g r ls x n (suc at) test last does w.2 w.3 (part-passes g r ls x n does w.2 w.3) K k (action-passes g ls.scope x n act _ k e)
   part-passes g r ls x n (p.Sync at held inside) part w K k e = held-passes g ls.scope x n held (statement g r ls inside).made (part-passes g r ls x n inside w.0 w.1) K k e
   part-passes g r ls x n (p.Return at v end) part w K k e = return-passes g r ls.scope x n (suc at) v K k e
-
-  -- behind the first part of a `for`
-  loop-passes : (g : Ground) (r : Option FaceTy) (ls : Locals) (x : ℕ) → NotNamed g ls.scope x → (at : ℕ) (test : Option PlainExpr) (last : Option PlainAction) (does : PlainStmt) → IsPart does → StmtWritten does
-      → Passes x (t.While (condition_if_any g ls.scope at test).term (t.Block (t.statement (statement g r ls does).made (reading.statements (last_done g (behind ls does).scope last).made))))
-  loop-passes g r ls x n at test last does part w K k e =
-      while-passes x (condition_if_any g ls.scope at test).term (t.Block (t.statement (statement g r ls does).made (reading.statements (last_done g (behind ls does).scope last).made)))
-      (test-keeps g ls.scope x n at test)
-      (λ (L : Flow) (j : Bool) (h : _). last-passes g (behind ls does).scope x (moved g ls does x part w n) last L j (part-passes g r ls x n does part w _ j h)) K k e
 
   other-passes : (g : Ground) (r : Option FaceTy) (ls : Locals) (x : ℕ) → NotNamed g ls.scope x → (ss : PlainStmts) → OtherWritten ss → Passes x (branch g r ls ss).made
   other-passes g r ls x n p.no_stmts w K k e = e
@@ -246,11 +248,11 @@ mutual
   step-passes g r ls x n (p.While at test does) w K k e =
       (while-passes x (condition g ls.scope test).term (statement g r ls does).made (fitted_keeps g ls.scope x n (Of face.Bool) test) (part-passes g r ls x n does w.0 w.1) K k e,
         moved g ls (p.While at test does) x tt w n)
-  step-passes g r ls x n (p.For at p.Nothing test last does) w K k e = (loop-passes g r ls x n (suc at) test last does w.2 w.3 K k e, n)
+  step-passes g r ls x n (p.For at p.Nothing test last does) w K k e = (loop-passes g r ls x n (suc at) test last does w.2 w.3 (part-passes g r ls x n does w.2 w.3) K k e, n)
   step-passes g r ls x n (p.For at (p.FirstLocal l) test last does) w K k e =
-      let b = declaration-passes g ls l x n _ k e in (loop-passes g r (with_local ls l) x b.1 (suc at) test last does w.2 w.3 K k b.0, n)
+      let b = declaration-passes g ls l x n _ k e in (loop-passes g r (with_local ls l) x b.1 (suc at) test last does w.2 w.3 (part-passes g r (with_local ls l) x b.1 does w.2 w.3) K k b.0, n)
   step-passes g r ls x n (p.For at (p.FirstAction act) test last does) w K k e =
-      (loop-passes g r ls x n (suc at) test last does w.2 w.3 K k (action-passes g ls.scope x n act _ k e), n)
+      (loop-passes g r ls x n (suc at) test last does w.2 w.3 (part-passes g r ls x n does w.2 w.3) K k (action-passes g ls.scope x n act _ k e), n)
   step-passes g r ls x n (p.Sync at held inside) w K k e =
       (held-passes g ls.scope x n held (statement g r ls inside).made (part-passes g r ls x n inside w.0 w.1) K k e, moved g ls (p.Sync at held inside) x tt w n)
   step-passes g r ls x n (p.Return at v end) w K k e = (return-passes g r ls.scope x n (suc at) v K k e, n)
