@@ -14,3 +14,4 @@ pub mod Typing
 pub mod Tops
 pub mod Keeping
 pub mod Passing
+pub mod Ending
