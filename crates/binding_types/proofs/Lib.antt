@@ -15,3 +15,4 @@ pub mod Tops
 pub mod Keeping
 pub mod Passing
 pub mod Ending
+pub mod Bodies

@@ -4,3 +4,4 @@ pub mod Written
 pub mod Placed
 pub mod Under
 pub mod Named
+pub mod Bodies

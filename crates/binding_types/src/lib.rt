@@ -1,5 +1,7 @@
-//! Units that are bound without findings are typed.
+//! What is bound without findings is typed: expressions, statements, bodies and units. It knows what
+//! binds a unit and what a typed unit is, and nothing of the numbers of a program.
 #![tactic(auto)]
 
-/// Nothing.
-pub fn bound_units_are_typed() {}
+mod laws;
+
+pub use laws::bound_bodies_are_typed;
