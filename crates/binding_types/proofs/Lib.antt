@@ -16,3 +16,5 @@ pub mod Keeping
 pub mod Passing
 pub mod Ending
 pub mod Bodies
+pub mod Heads
+pub mod Codes

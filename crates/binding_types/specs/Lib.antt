@@ -5,3 +5,4 @@ pub mod Placed
 pub mod Under
 pub mod Named
 pub mod Bodies
+pub mod Members
