@@ -1,5 +1,5 @@
 -- Members with code that are bound without a finding are typed.
-use Rattle.std.proofs.Common.{◌≡◌, ℕ, suc, zero, zero-add, one-add, ◌+◌, ◌≤◌, ◌==◌, refl, ap, sym, ◌∙◌, subst, arith, Bool, true, false, not, if◌then◌else◌, List, [], ◌∷◌, ◌++◌, map, length, nat_lt, Option, Some, None, is_some}
+use Rattle.std.proofs.Common.{◌≡◌, ℕ, suc, zero, zero-add, one-add, ◌+◌, ◌≤◌, ◌==◌, refl, ap, sym, ◌∙◌, subst, arith, Bool, true, false, not, if◌then◌else◌, List, [], ◌∷◌, ◌++◌, map, length, nat_lt, ◌<◌, lt-ltb, Option, Some, None, is_some}
 use Rattle.std.specs.List.{AllByRecursion, slice_get}
 use Rattle.bound_tree.proofs.Tests.{false-true}
 use Rattle.desk_base.specs.declared.span.Span.{Span}
@@ -28,7 +28,7 @@ use Rattle.binder.specs.Members.{Code, first_param, ground_of, head_of, body_don
 use Rattle.binder.specs.Params.{result_face, result_notes, result_type, params_notes, params_scope}
 use Rattle.binder.specs.Trees.{PlainBody}
 use Rattle.typed_units.specs.Frames.{is_known_value}
-use Rattle.typed_units.specs.Declared.{args_types, declared_types}
+use Rattle.typed_units.specs.Declared.{args_types, declared_types, param_type}
 use Rattle.typed_units.specs.Standing.{TypesStand}
 use Rattle.typed_units.specs.Statements.{StatementTyped}
 use Rattle.binding_types.specs.Silent.{Silent}
@@ -52,12 +52,15 @@ pub record PlainTyped (types : Types) (class : Name) (params : List ParamFace) (
   pub set : (x : ℕ) → live x (entered b.is_synchronized b.is_static (flow_of b.block)) false ≡ true → nat_lt x (length (args_types b.is_static class params)) ≡ true
   pub returns : is_some b.result ≡ true → may_end b.block true ≡ false
 
+some-below : (n : ℕ) → nat_lt 0 (suc n) ≡ true
+some-below n = lt-ltb 0 (suc n) (let h : 0 < suc n = omega arith in h)
+
 -- a synchronized member names `this` first, where there is one
 entered-set : (sync static : Bool) (class : Name) (params : List ParamFace) (s : Statement) → ((x : ℕ) → live x (flow_of s) false ≡ true → nat_lt x (length (args_types static class params)) ≡ true)
     → (x : ℕ) → live x (entered sync static (flow_of s)) false ≡ true → nat_lt x (length (args_types static class params)) ≡ true
 entered-set true true class params s h x e = h x e
 entered-set false static class params s h x e = h x e
-entered-set true false class params s h zero e = refl
+entered-set true false class params s h zero e = some-below (length (map param_type params))
 entered-set true false class params s h (suc x) e = h (suc x) e
 
 -- ---- where a body is bound
@@ -77,7 +80,7 @@ args-count false class names ps = one-add (length ps) ∙ ap suc (sym (types_cou
 
 this-first : (static : Bool) (class : Name) (params : List ParamFace) (x : ℕ) → nat_lt x (length (args_types static class params)) ≡ false → static ≡ false → (x == 0) ≡ false
 this-first true class params x e static_is = false-true (sym static_is)
-this-first false class params zero e static_is = false-true (sym e)
+this-first false class params zero e static_is = false-true (sym e ∙ some-below (length (map param_type params)))
 this-first false class params (suc x) e static_is = refl
 
 pub code_headed : (faces : Faces) (number : Span → ℕ) (class : Name) (c : Code) (names : Names) → TypesStand (types_shown faces) → is_declared (types_shown faces) class ≡ true

@@ -18,3 +18,4 @@ pub mod Ending
 pub mod Bodies
 pub mod Heads
 pub mod Codes
+pub mod Units
