@@ -1,6 +1,7 @@
 -- Members with code that are bound without a finding are typed.
 use Rattle.std.proofs.Common.{◌≡◌, ℕ, suc, zero, zero-add, one-add, ◌+◌, ◌≤◌, ◌==◌, refl, ap, sym, ◌∙◌, subst, arith, Bool, true, false, not, if◌then◌else◌, List, [], ◌∷◌, ◌++◌, map, length, nat_lt, ◌<◌, lt-ltb, Option, Some, None, is_some}
 use Rattle.std.specs.List.{AllByRecursion, slice_get}
+use Rattle.std.proofs.Math.Dec.{eqb-suc-zero}
 use Rattle.bound_tree.proofs.Tests.{false-true}
 use Rattle.desk_base.specs.declared.span.Span.{Span}
 use Rattle.java_tree.specs.declared.member.Main.{Main}
@@ -61,7 +62,7 @@ entered-set : (sync static : Bool) (class : Name) (params : List ParamFace) (s :
 entered-set true true class params s h x e = h x e
 entered-set false static class params s h x e = h x e
 entered-set true false class params s h zero e = some-below (length (map param_type params))
-entered-set true false class params s h (suc x) e = h (suc x) e
+entered-set true false class params s h (suc x) e = h (suc x) (sym (ap (λ (b : Bool). if b then true else live (suc x) (flow_of s) false) (eqb-suc-zero x)) ∙ e)
 
 -- ---- where a body is bound
 
@@ -81,7 +82,7 @@ args-count false class names ps = one-add (length ps) ∙ ap suc (sym (types_cou
 this-first : (static : Bool) (class : Name) (params : List ParamFace) (x : ℕ) → nat_lt x (length (args_types static class params)) ≡ false → static ≡ false → (x == 0) ≡ false
 this-first true class params x e static_is = false-true (sym static_is)
 this-first false class params zero e static_is = false-true (sym e ∙ some-below (length (map param_type params)))
-this-first false class params (suc x) e static_is = refl
+this-first false class params (suc x) e static_is = eqb-suc-zero x
 
 pub code_headed : (faces : Faces) (number : Span → ℕ) (class : Name) (c : Code) (names : Names) → TypesStand (types_shown faces) → is_declared (types_shown faces) class ≡ true
     → (c.is_constructor ≡ true → result_face c.result ≡ None) → Silent (head_notes faces number c)

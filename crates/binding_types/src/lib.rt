@@ -1,7 +1,7 @@
-//! What is bound without findings is typed: expressions, statements, bodies and units. It knows what
-//! binds a unit and what a typed unit is, and nothing of the numbers of a program.
+//! What is bound without findings is typed: bodies, and whole units. It knows what binds a unit and
+//! what a typed unit is, and nothing of the numbers of a program.
 #![tactic(auto)]
 
 mod laws;
 
-pub use laws::bound_bodies_are_typed;
+pub use laws::{bound_bodies_are_typed, bound_units_are_typed};
