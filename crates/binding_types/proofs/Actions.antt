@@ -1,5 +1,5 @@
 -- Assignments, steps and other actions without a finding are typed.
-use Rattle.std.proofs.Common.{◌≡◌, ℕ, suc, refl, ap, sym, ◌∙◌, subst, Bool, true, false, not, ◌&&◌, if◌then◌else◌, List, [], ◌∷◌, ◌++◌, Option, Some, None, is_some}
+use Rattle.std.proofs.Common.{◌≡◌, ℕ, suc, refl, ap, sym, ◌∙◌, subst, Bool, true, false, if◌then◌else◌, List, ◌++◌, Option, Some, None}
 use Rattle.bound_tree.proofs.Tests.{false-true}
 use Rattle.class_faces.specs.declared.face.FaceTy.{FaceTy}
 use Rattle.class_faces.specs.declared.face.FaceTy.TheVariants as face
@@ -26,12 +26,12 @@ use Rattle.name_rules.specs.Types.{Name, Types, is_known}
 use Rattle.name_rules.specs.Scopes.{Scope, Meaning, IsVariable, IsField, IsHidden, IsFree}
 use Rattle.name_rules.specs.Places.{Place, Anywhere, Of, Started, use_of}
 use Rattle.expression_binding.specs.Stamps.{restamped, spoilt_stamp, used, type_of}
-use Rattle.expression_binding.specs.Before.{Before, OnType, OnValue, class_before}
-use Rattle.expression_binding.specs.Fields.{NamedField, field_name, field_named}
-use Rattle.expression_binding.specs.Bound.{Ground, Bound, fitted, fit, fit_term, spoilt_if, found_at, is_paren, raw, meant, meaning_of, own_field_term, this_of, field_made, field_term, select_term, before}
+use Rattle.expression_binding.specs.Before.{Before, OnType, OnValue}
+use Rattle.expression_binding.specs.Fields.{NamedField, field_name}
+use Rattle.expression_binding.specs.Bound.{Ground, Bound, fitted, spoilt_if, found_at, is_paren, raw, meant, meaning_of, this_of, field_made, before}
 use Rattle.statement_binding.specs.Finals.{Written, blank_target, is_first_write}
-use Rattle.statement_binding.specs.Writes.{asked_type, assigned_place, is_forbidden, target_if, write_notes, assigned, set, compound, changed, changed_onto, int_value, step_op, one, by_sign, action, top_set, by_top_sign, top_action}
-use Rattle.typed_units.specs.Frames.{Frame, IsLocal, Suited, type_in, declared_as, is_known_value, given_suits}
+use Rattle.statement_binding.specs.Writes.{asked_type, assigned_place, is_forbidden, target_if, write_notes, assigned, set, changed, int_value, step_op, one, by_sign, action, by_top_sign, top_action}
+use Rattle.typed_units.specs.Frames.{Frame, type_in, declared_as, is_known_value, given_suits}
 use Rattle.typed_units.specs.Terms.{TermTyped, binary_type}
 use Rattle.typed_units.specs.Statements.{StatementTyped, IsTarget, SuitsGiven}
 use Rattle.binding_types.specs.Silent.{Silent}
@@ -39,7 +39,7 @@ use Rattle.binding_types.specs.Grounds.{frame_on, GroundFits, ScopeFits}
 use Rattle.binding_types.specs.Placed.{LocalsKnown}
 use Rattle.binding_types.specs.Written.{IsWrittenTarget, ActionWritten}
 use Rattle.binding_types.proofs.Silences.{first, second, unfound_if}
-use Rattle.binding_types.proofs.Fitting.{Sound, SoundAt, of_suits, started_starts}
+use Rattle.binding_types.proofs.Fitting.{SoundAt, of_suits, started_starts}
 use Rattle.binding_types.proofs.Names.{constant_sound}
 use Rattle.binding_types.proofs.Expressions.{fitted-sound}
 
@@ -228,9 +228,14 @@ changed-typed g locals result scope fits names op is_int target v written sound 
     let rest : Silent (v.notes ++ write_notes (is_forbidden g scope false target to.term) to.term) = second to.notes _ s in
     let y = sound (first v.notes _ rest) in
     let forbidden = is_forbidden g scope false target to.term in
-    subst (λ (z : Term). StatementTyped f (t.Compound z op v.term)) (sym (target-stays forbidden to.term (unfound_if forbidden code.FinalWrite (stamp_of to.term).at (second v.notes _ rest))))
-    (target_is g locals result scope (Of face.Int) target written x.sound.typed, x.sound.typed, of_suits g.types face.Int (type_in to.term) refl x.fits,
-      y.sound.typed, of_suits g.types face.Int (type_in v.term) refl y.fits, is_int)
+    subst (λ (z : Term). StatementTyped f (t.Compound z op v.term)) (sym (target-stays forbidden to.term (unfound_if forbidden code.FinalWrite (stamp_of to.term).at (second v.notes _ rest)))) (
+      target_is g locals result scope (Of face.Int) target written x.sound.typed,
+      x.sound.typed,
+      of_suits g.types face.Int (type_in to.term) refl x.fits,
+      y.sound.typed,
+      of_suits g.types face.Int (type_in v.term) refl y.fits,
+      is_int,
+    )
 
 step-int : (op : StepOp) → binary_type (step_op op) ≡ value.Int
 step-int step.Increment = refl

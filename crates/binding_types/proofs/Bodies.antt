@@ -1,37 +1,34 @@
 -- Bodies that are bound without a finding are typed.
-use Rattle.std.proofs.Common.{◌≡◌, ℕ, suc, zero, zero-add, ◌+◌, refl, ap, sym, ◌∙◌, subst, Bool, true, false, not, ◌&&◌, if◌then◌else◌, List, [], ◌∷◌, ◌++◌, length, nat_lt, Option, Some, None, is_some}
-use Rattle.std.specs.List.{AllByRecursion, slice_get}
+use Rattle.std.proofs.Common.{◌≡◌, ℕ, suc, zero, zero-add, refl, sym, subst, Bool, true, false, not, ◌&&◌, if◌then◌else◌, List, [], ◌∷◌, ◌++◌, length, nat_lt, Option, Some, None, is_some}
+use Rattle.std.specs.List.{slice_get}
 use Rattle.bound_tree.proofs.Tests.{false-true}
 use Rattle.class_faces.specs.declared.face.FaceTy.{FaceTy}
 use Rattle.result_records.specs.declared.code.FindingCode.TheVariants as code
-use Rattle.tree_places.specs.PlainStmt.{PlainStmt, PlainStmts}
+use Rattle.tree_places.specs.PlainStmt.{PlainStmts}
 use Rattle.bound_tree.specs.declared.name.ValueType.{ValueType}
 use Rattle.bound_tree.specs.declared.name.ValueType.TheVariants as value
 use Rattle.bound_tree.specs.Reading as reading
-use Rattle.bound_tree.specs.Tree.{Statement}
 use Rattle.bound_tree.specs.Flows.{Flow, End, in_statements}
 use Rattle.bound_tree.specs.Live.{live}
 use Rattle.lowering.specs.Endings.{may_end_all}
-use Rattle.name_rules.specs.declared.scope.Entry.{Entry}
 use Rattle.name_rules.specs.declared.scope.Variable.{Variable}
 use Rattle.name_rules.specs.Types.{Types}
 use Rattle.name_rules.specs.Scopes.{Scope}
 use Rattle.expression_binding.specs.Bound.{Ground}
-use Rattle.expression_binding.specs.Stamps.{type_given, type_of}
+use Rattle.expression_binding.specs.Stamps.{type_of}
 use Rattle.statement_binding.specs.Done.{DoneAll}
 use Rattle.statement_binding.specs.Ends.{never_ends, last_never_ends}
 use Rattle.statement_binding.specs.Statements.{statements}
-use Rattle.statement_binding.specs.Bodies.{Head, top_statements, items_of, items_done, end_notes, body}
+use Rattle.statement_binding.specs.Bodies.{top_statements, items_of, items_done, end_notes, body}
 use Rattle.typed_units.specs.Declared.{all_declared, declared_types}
-use Rattle.typed_units.specs.Frames.{is_known_value}
 use Rattle.typed_units.specs.Statements.{StatementsTyped}
 use Rattle.binding_types.specs.Silent.{Silent}
-use Rattle.binding_types.specs.Grounds.{frame_on, GroundFits, NameFits, EntryFits, ScopeFits}
+use Rattle.binding_types.specs.Grounds.{GroundFits, NameFits, ScopeFits}
 use Rattle.binding_types.specs.Named.{NotNamed}
-use Rattle.binding_types.specs.Placed.{Placed, LocalsKnown}
+use Rattle.binding_types.specs.Placed.{Placed}
 use Rattle.binding_types.specs.Under.{Locals}
 use Rattle.binding_types.specs.Written.{AllWritten}
-use Rattle.binding_types.specs.Bodies.{IsHeaded, BoundTyped, BodiesTyped, locals_of, made_of}
+use Rattle.binding_types.specs.Bodies.{BodiesTyped, made_of}
 use Rattle.binding_types.proofs.Silences.{first, second, unfound_if, not-false, none_some}
 use Rattle.binding_types.proofs.Placing.{placed_second, placed_all, locals_known, all_joined}
 use Rattle.binding_types.proofs.Known.{IsKnown, AllKnown, all-known}

@@ -1,11 +1,10 @@
 -- Arguments, calls and `new`, without a finding.
-use Rattle.std.proofs.Common.{◌≡◌, ℕ, suc, ◌+◌, ◌==◌, refl, ap, sym, ◌∙◌, subst, add-one, Bool, true, false, ◌&&◌, ◌||◌, not, cond, if◌then◌else◌, List, [], ◌∷◌, ◌++◌, length, Option, Some, None, nat_eq}
-use Rattle.std.specs.List.{AllByRecursion, slice_get}
+use Rattle.std.proofs.Common.{◌≡◌, ℕ, suc, refl, ap, sym, ◌∙◌, subst, add-one, Bool, true, false, ◌&&◌, ◌||◌, not, if◌then◌else◌, List, [], ◌∷◌, length, Option, Some, None}
+use Rattle.std.specs.List.{slice_get}
 use Rattle.std.specs.Cmp.{unsigned_Decides}
 use Rattle.bound_tree.proofs.Tests.{false-true}
 use Rattle.class_faces.specs.declared.face.FaceTy.{FaceTy}
 use Rattle.class_faces.specs.declared.face.ParamFace.{ParamFace}
-use Rattle.class_faces.specs.declared.face.MemberFace.{MemberFace}
 use Rattle.result_records.specs.declared.code.FindingCode.{FindingCode}
 use Rattle.result_records.specs.declared.code.FindingCode.TheVariants as code
 use Rattle.bound_tree.specs.declared.name.ValueType.{ValueType}
@@ -14,7 +13,6 @@ use Rattle.bound_tree.specs.Tree.{Term, stamp_of, is_bad}
 use Rattle.bound_tree.specs.Tree as t
 use Rattle.bound_tree.specs.Reading.{terms}
 use Rattle.lowering.specs.Lower as lower
-use Rattle.name_rules.specs.declared.note.Note.{Note}
 use Rattle.name_rules.specs.declared.uses.Use.{Use}
 use Rattle.name_rules.specs.declared.uses.Use.TheVariants as usage
 use Rattle.name_rules.specs.Types.{Name, Types, is_known_name}
@@ -22,7 +20,7 @@ use Rattle.name_rules.specs.Places.{Of, use_of, use_notes}
 use Rattle.expression_binding.specs.Stamps.{used, type_given, sound, unless_bad}
 use Rattle.expression_binding.specs.Before.{Before, OnType, OnValue, first_of, is_lost, is_misuse, class_before}
 use Rattle.expression_binding.specs.Methods.{NamedMethod, method_in, method_named, made_by, maker, maker_params, is_made, is_makeable}
-use Rattle.expression_binding.specs.Bound.{Ground, Bounds, any_bad, this_of, is_out_of_place, call_use, use_behind, method_term, method_behind_term, method_behind_notes, call_made, call_notes, own_use, own_call_term, own_method_term, own_method_notes, own_call_made, own_call_notes, unfound, object_term, no_object_term, new_term, new_notes}
+use Rattle.expression_binding.specs.Bound.{Ground, any_bad, this_of, is_out_of_place, call_use, use_behind, method_term, method_behind_term, method_behind_notes, call_made, call_notes, own_use, own_call_term, own_call_made, own_call_notes, unfound, object_term, no_object_term, new_term, new_notes}
 use Rattle.typed_units.specs.Frames.{Frame, type_in}
 use Rattle.typed_units.specs.Named.{IsMethod, is_known_result}
 use Rattle.typed_units.specs.Terms.{TermTyped, TermsTyped}
@@ -100,8 +98,11 @@ no-call lost args c at kept fine s = false-true (sym (or-fails lost (any_bad arg
 on-value : (f : Frame) (c name : Name) (n : ℕ) (m : NamedMethod) (args : List Term) (v : Term) (at first : ℕ) → MethodStands f.types c name n m → method_in f.types c name n ≡ Some m → ArgsSound f m.params n args
     → m.is_static ≡ false → TermTyped f v → type_in v ≡ Some (value.Named c) → Sound f (t.Call (sound at first (type_given m.result)) v m.named (terms args))
 on-value f c name n m args v at first stands found sound_args kind typed class = record {
-  typed = (typed, class ∙ ap (λ (k : Name). Some (value.Named k)) (sym stands.class),
-    (is_method f.types c name n m false (terms args) stands found kind sound_args.counted, sound_args.typed stands.counted));
+  typed = (
+    typed,
+    class ∙ ap (λ (k : Name). Some (value.Named k)) (sym stands.class),
+    (is_method f.types c name n m false (terms args) stands found kind sound_args.counted, sound_args.typed stands.counted),
+  );
   fine = refl;
 }
 
@@ -171,8 +172,11 @@ new_args types c n made = ap (λ (b : Bool). if b then maker types c else None) 
 new-made : (f : Frame) (c : Name) (n at : ℕ) (args : List Term) → is_made f.types c n ≡ true → ArgsSound f (maker_params (maker f.types c)) n args → Sound f (object_term at c args)
 new-made f c n at args made sound_args = subst (λ (b : Bool). Sound f (t.New (unless_bad b at at (value.Named c)) c (terms args))) (sym sound_args.fine)
     (record {
-      typed = (refl, ap (is_made f.types c) sound_args.counted ∙ made,
-        sound_args.typed ((unsigned_Decides (length (maker_params (maker f.types c))) n).0 (and-second (is_makeable f.types c) _ made)));
+      typed = (
+        refl,
+        ap (is_made f.types c) sound_args.counted ∙ made,
+        sound_args.typed ((unsigned_Decides (length (maker_params (maker f.types c))) n).0 (and-second (is_makeable f.types c) _ made)),
+      );
       fine = refl;
     })
 

@@ -1,6 +1,6 @@
 -- Members with code that are bound without a finding are typed.
-use Rattle.std.proofs.Common.{◌≡◌, ℕ, suc, zero, zero-add, one-add, ◌+◌, ◌≤◌, ◌==◌, refl, ap, sym, ◌∙◌, subst, arith, Bool, true, false, not, if◌then◌else◌, List, [], ◌∷◌, ◌++◌, map, length, nat_lt, ◌<◌, lt-ltb, Option, Some, None, is_some}
-use Rattle.std.specs.List.{AllByRecursion, slice_get}
+use Rattle.std.proofs.Common.{◌≡◌, ℕ, suc, zero, zero-add, one-add, ◌+◌, ◌≤◌, ◌==◌, refl, ap, sym, ◌∙◌, subst, arith, Bool, true, false, if◌then◌else◌, List, [], ◌∷◌, ◌++◌, map, length, nat_lt, ◌<◌, lt-ltb, Option, Some, None, is_some}
+use Rattle.std.specs.List.{slice_get}
 use Rattle.std.proofs.Math.Dec.{eqb-suc-zero}
 use Rattle.bound_tree.proofs.Tests.{false-true}
 use Rattle.desk_base.specs.declared.span.Span.{Span}
@@ -19,31 +19,25 @@ use Rattle.bound_tree.specs.Live.{live}
 use Rattle.lowering.specs.CodeFlows.{entered}
 use Rattle.lowering.specs.Endings.{may_end}
 use Rattle.name_rules.specs.Types.{Name, Types, is_declared}
-use Rattle.name_rules.specs.Scopes.{Scope}
-use Rattle.expression_binding.specs.Bound.{Ground}
 use Rattle.expression_binding.specs.Stamps.{type_given}
-use Rattle.statement_binding.specs.Bodies.{Head, body, items_of}
+use Rattle.statement_binding.specs.Bodies.{body}
 use Rattle.bound_unit.specs.Names.{Faces}
 use Rattle.unit_rules.specs.Shown.{types_shown}
 use Rattle.binder.specs.Members.{Code, first_param, ground_of, head_of, body_done, code_body, head_notes, code_notes, main_scope, main_head, main_done, main_body}
 use Rattle.binder.specs.Params.{result_face, result_notes, result_type, params_notes, params_scope}
 use Rattle.binder.specs.Trees.{PlainBody}
-use Rattle.typed_units.specs.Frames.{is_known_value}
 use Rattle.typed_units.specs.Declared.{args_types, declared_types, param_type}
 use Rattle.typed_units.specs.Standing.{TypesStand}
 use Rattle.typed_units.specs.Statements.{StatementTyped}
 use Rattle.binding_types.specs.Silent.{Silent}
-use Rattle.binding_types.specs.Grounds.{frame_on, GroundFits, ScopeFits}
-use Rattle.binding_types.specs.Named.{NotNamed}
 use Rattle.binding_types.specs.Placed.{Placed}
-use Rattle.binding_types.specs.Written.{AllWritten}
 use Rattle.binding_types.specs.Members.{BlockWritten}
 use Rattle.binding_types.specs.Bodies.{IsHeaded, BoundTyped}
 use Rattle.binding_types.proofs.Silences.{first, second}
 use Rattle.binding_types.proofs.Placing.{placed_all}
-use Rattle.binding_types.proofs.Known.{IsKnown, AllKnown}
+use Rattle.binding_types.proofs.Known.{AllKnown}
 use Rattle.binding_types.proofs.Bodies.{bodies-typed}
-use Rattle.binding_types.proofs.Heads.{faces_of, types_of, types_count, params_known, params_fit, params_miss, result_known, result_given, at_least, args_known}
+use Rattle.binding_types.proofs.Heads.{faces_of, types_count, params_known, params_fit, params_miss, result_known, result_given, at_least, args_known}
 
 -- ---- a body as plain data
 

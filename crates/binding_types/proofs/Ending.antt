@@ -1,5 +1,5 @@
 -- A body with a result, without a finding, comes to no end without one.
-use Rattle.std.proofs.Common.{◌≡◌, ℕ, suc, refl, ap, sym, ◌∙◌, subst, Bool, true, false, not, ◌&&◌, ◌||◌, if◌then◌else◌, List, [], ◌∷◌, ◌++◌, Option, Some, None}
+use Rattle.std.proofs.Common.{◌≡◌, ℕ, suc, refl, ap, sym, ◌∙◌, Bool, true, false, ◌&&◌, ◌||◌, if◌then◌else◌, [], ◌∷◌, ◌++◌, Option, Some, None}
 use Rattle.bound_tree.proofs.Tests.{false-true, and-false}
 use Rattle.class_faces.specs.declared.face.FaceTy.{FaceTy}
 use Rattle.java_tree.specs.declared.stmt.AssignOp.{AssignOp}
@@ -16,7 +16,7 @@ use Rattle.name_rules.specs.Scopes.{Scope}
 use Rattle.expression_binding.specs.Bound.{Ground, raw}
 use Rattle.statement_binding.specs.Ends.{is_true, never_ends, last_never_ends}
 use Rattle.statement_binding.specs.Writes.{action, by_sign}
-use Rattle.statement_binding.specs.Heads.{condition, condition_if_any, first_done, behind_first, last_done, held_notes, locked_by, held_by, result_place, returned}
+use Rattle.statement_binding.specs.Heads.{condition, condition_if_any, first_done, behind_first, last_done, held_notes, locked_by, held_by, returned}
 use Rattle.statement_binding.specs.Statements.{behind, behind_all, statement, statements, branch}
 use Rattle.statement_binding.specs.Bodies.{items_of}
 use Rattle.binding_types.specs.Silent.{Silent}

@@ -1,5 +1,5 @@
 -- Expressions that are bound without a finding are typed.
-use Rattle.std.proofs.Common.{◌≡◌, ℕ, suc, refl, ap, sym, ◌∙◌, subst, Bool, true, false, if◌then◌else◌, List, [], ◌∷◌, ◌++◌, length, drop, Option, Some, None}
+use Rattle.std.proofs.Common.{◌≡◌, ℕ, suc, refl, sym, subst, Bool, true, false, if◌then◌else◌, List, [], ◌∷◌, ◌++◌, Option, Some, None}
 use Rattle.std.specs.List.{AllByRecursion}
 use Rattle.class_faces.specs.declared.face.FaceTy.TheVariants as face
 use Rattle.class_faces.specs.declared.face.ParamFace.{ParamFace}
@@ -11,23 +11,21 @@ use Rattle.bound_tree.specs.declared.name.ValueType.{ValueType}
 use Rattle.bound_tree.specs.declared.name.ValueType.TheVariants as value
 use Rattle.bound_tree.specs.declared.tree.Literal.TheVariants as literal
 use Rattle.bound_tree.specs.declared.tree.UnaryOp.TheVariants as unary
-use Rattle.bound_tree.specs.Tree.{Term, stamp_of}
-use Rattle.name_rules.specs.declared.note.Note.{Note}
 use Rattle.name_rules.specs.Types.{Types, Name}
 use Rattle.name_rules.specs.Scopes.{Scope}
-use Rattle.name_rules.specs.Places.{Place, Anywhere, AnyValue, Of}
+use Rattle.name_rules.specs.Places.{Place, Anywhere, Of}
 use Rattle.expression_binding.specs.Methods.{NamedMethod, method_in, method_named, method_params, method_notes, made_by, maker, maker_params, made_notes, is_made}
 use Rattle.expression_binding.specs.Stamps.{string_type}
-use Rattle.expression_binding.specs.Before.{Before, class_before}
-use Rattle.expression_binding.specs.Bound.{Ground, Bound, Based, fit, is_paren, left_place, right_place, argument_place, before, type_word, meaning_of, count, raw, raw_all, fitted, own_call_notes, call_notes, new_notes, right_notes, select_notes, fit_notes, any_bad}
-use Rattle.typed_units.specs.Frames.{Frame, type_in}
+use Rattle.expression_binding.specs.Before.{class_before}
+use Rattle.expression_binding.specs.Bound.{Ground, fit, is_paren, left_place, right_place, before, type_word, meaning_of, count, raw, raw_all, fitted, own_call_notes, call_notes, new_notes}
+use Rattle.typed_units.specs.Frames.{type_in}
 use Rattle.typed_units.specs.Standing.{TypesStand, IsKnownParam}
 use Rattle.binding_types.specs.Silent.{Silent}
 use Rattle.binding_types.specs.Grounds.{frame_on, GroundFits, ScopeFits}
 use Rattle.binding_types.proofs.Silences.{first, second}
 use Rattle.binding_types.proofs.Lookups.{method_stands, made_known}
-use Rattle.binding_types.proofs.Fitting.{Sound, SoundAt, bound_fits, term_fits, of_suits}
-use Rattle.binding_types.proofs.Names.{BaseSound, constant_sound, this_at_sound, meaning_fits, meant_sound, base_sound, select_sound}
+use Rattle.binding_types.proofs.Fitting.{Sound, SoundAt, bound_fits, of_suits}
+use Rattle.binding_types.proofs.Names.{constant_sound, this_at_sound, meaning_fits, meant_sound, base_sound, select_sound}
 use Rattle.binding_types.proofs.Calls.{ArgsSound, no_args, first_arg, more_arg, own_call_sound, call_sound, new_args, new_sound}
 use Rattle.binding_types.proofs.Operators.{parens_sound, on_one_sound, joined_sound}
 

@@ -1,18 +1,15 @@
 -- An expression without a finding that is put in a place stays as it is, and suits the place.
-use Rattle.std.proofs.Common.{◌≡◌, ℕ, refl, ap, sym, ◌∙◌, subst, Bool, true, false, not, ◌||◌, if◌then◌else◌, List, ◌++◌, Option, Some, None, is_some}
+use Rattle.std.proofs.Common.{◌≡◌, refl, sym, subst, Bool, true, false, not, ◌||◌, if◌then◌else◌, Option, Some, None, is_some}
 use Rattle.bound_tree.proofs.Tests.{false-true}
 use Rattle.class_faces.specs.declared.face.FaceTy.{FaceTy}
 use Rattle.result_records.specs.declared.code.FindingCode.{FindingCode}
 use Rattle.bound_tree.specs.declared.name.ValueType.{ValueType}
 use Rattle.bound_tree.specs.Tree.{Term, stamp_of, is_bad}
-use Rattle.name_rules.specs.declared.note.Note.{Note}
-use Rattle.name_rules.specs.Types.{Types, is_known, suits, compares, has_monitor, can_start}
-use Rattle.name_rules.specs.Types as rules
-use Rattle.name_rules.specs.Places.{Place, AnyValue, Of, Beside, Locked, Started, misplaced, found_unless}
-use Rattle.expression_binding.specs.Stamps.{judged_type, judged_given, restamped, spoilt_stamp}
+use Rattle.name_rules.specs.Types.{Types, is_known, suits}
+use Rattle.name_rules.specs.Places.{Place, AnyValue, Of, Locked, Started, misplaced, found_unless}
+use Rattle.expression_binding.specs.Stamps.{judged_type, judged_given}
 use Rattle.expression_binding.specs.Bound.{Bound, found_at, finding_if, spoilt_if, fit_term, fit_notes, fit, beside}
 use Rattle.typed_units.specs.Frames.{Frame, type_in, given_suits, given_compares, given_locks, given_starts}
-use Rattle.typed_units.specs.Frames as frames
 use Rattle.typed_units.specs.Terms.{TermTyped}
 use Rattle.binding_types.specs.Silent.{Silent}
 use Rattle.binding_types.proofs.Silences.{first, second, none_some}

@@ -1,28 +1,25 @@
 -- Parameters and results that are bound without a finding, and where a member's body is bound.
-use Rattle.std.proofs.Common.{◌≡◌, ℕ, suc, zero, ◌+◌, ◌<◌, ◌≤◌, ◌==◌, refl, ap, sym, ◌∙◌, subst, arith, add-one, Bool, true, false, not, if◌then◌else◌, List, [], ◌∷◌, ◌++◌, map, length, nat_lt, Option, Some, None, ltb-false}
-use Rattle.std.specs.List.{AllByRecursion, slice_get}
+use Rattle.std.proofs.Common.{◌≡◌, ℕ, ◌+◌, ◌<◌, ◌≤◌, ◌==◌, refl, ap, sym, ◌∙◌, subst, arith, add-one, Bool, true, false, if◌then◌else◌, List, [], ◌∷◌, ◌++◌, map, length, nat_lt, Option, Some, None, ltb-false}
+use Rattle.std.specs.List.{AllByRecursion}
 use Rattle.std.specs.Option.{option_map}
 use Rattle.std.specs.Cmp.{unsigned_Decides}
 use Rattle.std.proofs.lemmas.List.{length-map}
-use Rattle.bound_tree.proofs.Tests.{false-true, or-right}
+use Rattle.bound_tree.proofs.Tests.{or-right}
 use Rattle.desk_base.specs.declared.span.Span.{Span}
 use Rattle.java_tree.specs.declared.member.Ty.{Ty}
 use Rattle.java_tree.specs.declared.member.Ty.TheVariants as ty
 use Rattle.java_tree.specs.declared.member.Param.{Param}
-use Rattle.class_faces.specs.declared.face.FaceTy.{FaceTy}
 use Rattle.class_faces.specs.declared.face.ParamFace.{ParamFace}
 use Rattle.class_faces.specs.Assigned.{Names}
-use Rattle.class_faces.specs.Faces.{face_ty, param_face, is_final}
+use Rattle.class_faces.specs.Faces.{face_ty, param_face}
 use Rattle.tree_places.specs.Plain.{plain_ty}
 use Rattle.bound_tree.specs.declared.name.ValueType.{ValueType}
-use Rattle.bound_tree.specs.declared.name.ValueType.TheVariants as value
 use Rattle.name_rules.specs.declared.scope.Entry.{Entry}
 use Rattle.name_rules.specs.Types.{Name, Types, is_known, is_declared, is_built_in, is_known_name}
 use Rattle.name_rules.specs.Scopes.{Scope, in_scope, with_entry}
-use Rattle.expression_binding.specs.Stamps.{type_of, type_given}
+use Rattle.expression_binding.specs.Stamps.{type_given}
 use Rattle.statement_binding.specs.DeclaredTypes.{declared, declared_notes}
-use Rattle.binder.specs.Params.{result_face, result_notes, result_type, value_type, param_entry, param_notes, params_notes, params_scope}
-use Rattle.typed_units.specs.Frames.{is_known_value}
+use Rattle.binder.specs.Params.{result_face, result_notes, result_type, param_entry, param_notes, params_notes, params_scope}
 use Rattle.typed_units.specs.Named.{is_known_result}
 use Rattle.typed_units.specs.Declared.{param_type, args_types}
 use Rattle.binding_types.specs.Silent.{Silent}
@@ -31,7 +28,7 @@ use Rattle.binding_types.specs.Named.{Misses, MissesEntry}
 use Rattle.binding_types.specs.Placed.{Placed}
 use Rattle.binding_types.proofs.Silences.{first, second}
 use Rattle.binding_types.proofs.Placing.{all_joined}
-use Rattle.binding_types.proofs.Known.{IsKnown, AllKnown, type_known}
+use Rattle.binding_types.proofs.Known.{AllKnown, type_known}
 use Rattle.binding_types.proofs.Actions.{declared_type}
 
 -- ---- types
@@ -69,9 +66,10 @@ types_count names ps = length-map (faces_of names ps) param_type ∙ length-map 
 
 pub params_known : (types : Types) (number : Span → ℕ) (names : Names) (n : ℕ) (scope : Scope) (ps : List Param) → Silent (params_notes types number n scope ps) → AllKnown types (types_of names ps)
 params_known types number names n scope [] s = tt
-params_known types number names n scope (q ∷ qs) s =
-    (declared_type (face_ty q.ty) types (ty_known types number q.ty (first (declared_notes types (plain_ty number q.ty)) _ (first (param_notes types number scope q) _ s))),
-      params_known types number names (n + 1) (with_entry scope (param_entry n q)) qs (second (param_notes types number scope q) _ s))
+params_known types number names n scope (q ∷ qs) s = (
+  declared_type (face_ty q.ty) types (ty_known types number q.ty (first (declared_notes types (plain_ty number q.ty)) _ (first (param_notes types number scope q) _ s))),
+  params_known types number names (n + 1) (with_entry scope (param_entry n q)) qs (second (param_notes types number scope q) _ s),
+)
 
 entry-with : (P : Entry → Type 0) (b : Bool) (scope : Scope) (e : Entry) → AllByRecursion P scope → P e → AllByRecursion P (if b then scope else scope ++ e ∷ [])
 entry-with P true scope e h i = h
@@ -83,7 +81,7 @@ params_fit types number names locals n scope [] fits placed s = fits
 params_fit types number names locals n scope (q ∷ qs) fits placed s =
     params_fit types number names locals (n + 1) (with_entry scope (param_entry n q)) qs
     (entry-with (EntryFits types locals) (in_scope scope q.name.text) scope (param_entry n q) fits
-      (record { kept = placed.0; known = ty_known types number q.ty (first (declared_notes types (plain_ty number q.ty)) _ (first (param_notes types number scope q) _ s)) }))
+    (record { kept = placed.0; known = ty_known types number q.ty (first (declared_notes types (plain_ty number q.ty)) _ (first (param_notes types number scope q) _ s)) }))
     (subst (λ (k : ℕ). Placed locals k (types_of names qs)) (sym (add-one n)) placed.1) (second (param_notes types number scope q) _ s)
 
 apart : (x n : ℕ) (b : Bool) → (x == n) ≡ b → n < x → b ≡ false

@@ -1,7 +1,6 @@
 -- An expression names no local but `this` and those in scope: another one is live before it exactly where it is live behind it.
-use Rattle.std.proofs.Common.{◌≡◌, ℕ, suc, ◌==◌, refl, ap, sym, ◌∙◌, subst, Bool, true, false, ◌||◌, if◌then◌else◌, List, [], ◌∷◌, ◌++◌, drop, Option, Some, None, bytes_eq}
+use Rattle.std.proofs.Common.{◌≡◌, ℕ, suc, ◌==◌, refl, ap, ◌∙◌, Bool, true, false, ◌||◌, if◌then◌else◌, List, [], ◌∷◌, drop, Option, Some, None, bytes_eq}
 use Rattle.std.specs.Prelude.{codes}
-use Rattle.std.specs.List.{AllByRecursion}
 use Rattle.class_faces.specs.declared.face.FaceTy.TheVariants as face
 use Rattle.class_faces.specs.declared.face.FieldFace.{FieldFace}
 use Rattle.class_faces.specs.declared.face.ParamFace.{ParamFace}
@@ -12,7 +11,6 @@ use Rattle.java_tree.specs.declared.expr.BinaryOp.TheVariants as operator
 use Rattle.tree_places.specs.PlainExpr.{PlainLexeme, PlainExpr, PlainExprs}
 use Rattle.tree_places.specs.PlainExpr as e
 use Rattle.bound_tree.specs.declared.tree.Stamp.{Stamp}
-use Rattle.bound_tree.specs.declared.tree.UnaryOp.TheVariants as unary
 use Rattle.bound_tree.specs.Tree.{Term, Terms, no_terms, stamp_of}
 use Rattle.bound_tree.specs.Tree as t
 use Rattle.bound_tree.specs.Reading.{terms}
@@ -22,14 +20,14 @@ use Rattle.name_rules.specs.declared.note.Note.TheVariants.{Finding, Names}
 use Rattle.name_rules.specs.declared.scope.Entry.{Entry}
 use Rattle.name_rules.specs.declared.scope.Variable.{Variable}
 use Rattle.name_rules.specs.Types.{Name, Types, is_known_name}
-use Rattle.name_rules.specs.Scopes.{Scope, Meaning, IsVariable, IsField, IsHidden, IsFree, entry_of, meaning_by, variable_meaning, field_meaning}
+use Rattle.name_rules.specs.Scopes.{Scope, Meaning, IsVariable, IsField, IsHidden, IsFree, entry_of, meaning_by, variable_meaning}
 use Rattle.name_rules.specs.Places.{Place, AnyValue, Of}
 use Rattle.name_rules.specs.Types.{field_of}
 use Rattle.expression_binding.specs.Stamps.{restamped, stamp_from, spoilt_stamp, faulty}
 use Rattle.expression_binding.specs.Before.{Before, OnType, OnValue, class_before}
 use Rattle.expression_binding.specs.Fields.{NamedField, field_name}
 use Rattle.expression_binding.specs.Methods.{NamedMethod, method_in, method_named, method_params, made_by, maker_params, is_made}
-use Rattle.expression_binding.specs.Bound.{Ground, Bound, Based, unknown, this_of, this_at, own_field_term, variable, meant, meaning_of, fit, fit_term, spoilt_if, found_at, is_paren, before, before_by, type_word, field_made, own_call_made, own_call_term, call_made, no_method_term, method_term, object_term, no_object_term, new_term, left_place, right_place, term_on_two, argument_place, count, raw, raw_all, fitted}
+use Rattle.expression_binding.specs.Bound.{Ground, Bound, Based, unknown, this_of, meant, meaning_of, fit, fit_term, spoilt_if, found_at, is_paren, before, before_by, type_word, field_made, own_call_made, call_made, object_term, no_object_term, left_place, right_place, term_on_two, argument_place, count, raw, raw_all, fitted}
 use Rattle.binding_types.specs.Named.{Misses, MissesNone, MissesEntry, NotNamed}
 use Rattle.binding_types.proofs.Lookups.{find-all}
 

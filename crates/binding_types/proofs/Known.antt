@@ -1,9 +1,8 @@
 -- The types with which a statement without a finding declares locals are there.
-use Rattle.std.proofs.Common.{◌≡◌, ℕ, suc, refl, ap, sym, ◌∙◌, subst, Bool, true, false, not, List, [], ◌∷◌, ◌++◌, Option, Some, None}
+use Rattle.std.proofs.Common.{◌≡◌, suc, refl, ap, sym, subst, true, not, List, [], ◌++◌, Option}
 use Rattle.std.specs.List.{AllByRecursion}
 use Rattle.class_faces.specs.declared.face.FaceTy.{FaceTy}
 use Rattle.result_records.specs.declared.code.FindingCode.TheVariants as code
-use Rattle.tree_places.specs.PlainExpr.{PlainExpr}
 use Rattle.tree_places.specs.PlainStmt.{PlainAction, PlainFirst, PlainMonitor, PlainLocal, PlainStmt, PlainStmts, PlainTy}
 use Rattle.tree_places.specs.PlainStmt as p
 use Rattle.bound_tree.specs.declared.name.ValueType.{ValueType}
@@ -13,12 +12,9 @@ use Rattle.bound_tree.specs.Tree as t
 use Rattle.name_rules.specs.Types.{Types, is_known, is_known_name}
 use Rattle.name_rules.specs.Scopes.{Scope}
 use Rattle.expression_binding.specs.Bound.{Ground}
-use Rattle.expression_binding.specs.Stamps.{type_of}
 use Rattle.statement_binding.specs.DeclaredTypes.{declared, declared_notes}
-use Rattle.statement_binding.specs.Finals.{Written}
 use Rattle.statement_binding.specs.Locals.{local_type, declaration_notes}
-use Rattle.statement_binding.specs.Writes.{action, top_action}
-use Rattle.statement_binding.specs.Heads.{condition, condition_if_any, first_done, behind_first, last_done, held_notes, locked_by, held_by, returned}
+use Rattle.statement_binding.specs.Heads.{condition, condition_if_any, first_done, behind_first, last_done, held_notes}
 use Rattle.statement_binding.specs.Statements.{behind, behind_all, statement, statements, branch}
 use Rattle.typed_units.specs.Frames.{is_known_value}
 use Rattle.typed_units.specs.Declared.{declared_types, all_declared}
@@ -71,9 +67,9 @@ mutual
       let rest = second (condition_if_any g inner.scope (suc at) test).notes _ (second (first_done g ls f).notes _ s) in
       subst (AllKnown g.types) (sym (loop_types g ls f (t.While (condition_if_any g inner.scope (suc at) test).term (t.Block (t.statement body (reading.statements end))))))
       (all_joined (IsKnown g.types) (all_declared (reading.statements (first_done g ls f).made)) (declared_types body ++ all_declared (reading.statements end))
-        (first-known g ls f (first (first_done g ls f).notes _ s))
-        (all_joined (IsKnown g.types) (declared_types body) (all_declared (reading.statements end))
-          (known-of g r inner does (first (statement g r inner does).notes _ rest)) (no-types g.types _ (last_types g (behind inner does).scope last))))
+      (first-known g ls f (first (first_done g ls f).notes _ s))
+      (all_joined (IsKnown g.types) (declared_types body) (all_declared (reading.statements end))
+      (known-of g r inner does (first (statement g r inner does).notes _ rest)) (no-types g.types _ (last_types g (behind inner does).scope last))))
   known-of g r ls (p.Sync at held body) s =
       subst (AllKnown g.types) (sym (held_types held g ls.scope (statement g r ls body).made)) (known-of g r ls body (second (held_notes g ls.scope held) _ s))
   known-of g r ls (p.Return at v end) s = no-types g.types _ (return_types g r ls.scope (suc at) v)

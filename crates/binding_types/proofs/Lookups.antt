@@ -1,13 +1,11 @@
 -- What a look-up finds in types that stand.
-use Rattle.std.proofs.Common.{◌≡◌, ℕ, refl, ap, sym, ◌∙◌, subst, Bool, true, false, cond, ◌&&◌, ◌==◌, List, [], ◌∷◌, length, find, Option, Some, None, is_some, nat_eq, bytes_eq}
-use Rattle.std.specs.List.{AllByRecursion, starts_with}
+use Rattle.std.proofs.Common.{◌≡◌, ℕ, refl, ap, sym, ◌∙◌, subst, Bool, true, false, cond, ◌==◌, List, [], ◌∷◌, length, find, Option, Some, None, is_some, bytes_eq}
+use Rattle.std.specs.List.{AllByRecursion}
 use Rattle.std.proofs.lemmas.Slice.Eq.{bytes_eq-Decides}
 use Rattle.std.specs.Cmp.{unsigned_Decides}
 use Rattle.class_faces.specs.declared.face.FaceTy.{FaceTy}
 use Rattle.class_faces.specs.declared.face.FieldFace.{FieldFace}
 use Rattle.class_faces.specs.declared.face.MemberFace.{MemberFace}
-use Rattle.class_faces.specs.declared.face.ParamFace.{ParamFace}
-use Rattle.bound_tree.specs.declared.name.MemberName.{MemberName}
 use Rattle.name_rules.specs.Types.{Name, Types, Face, field_in, field_of, member_key, member_in, maker_in, is_known}
 use Rattle.expression_binding.specs.Stamps.{type_given}
 use Rattle.expression_binding.specs.Methods.{NamedMethod, named_method, face_method, is_run, run_method, method_in, maker, maker_params}

@@ -1,9 +1,8 @@
 -- `this`, bare names and fields behind a dot, without a finding.
-use Rattle.std.proofs.Common.{◌≡◌, ℕ, suc, refl, ap, sym, ◌∙◌, subst, Bool, true, false, ◌&&◌, not, if◌then◌else◌, List, [], ◌∷◌, ◌++◌, find, Option, Some, None, bytes_eq}
+use Rattle.std.proofs.Common.{◌≡◌, ℕ, suc, refl, ap, sym, ◌∙◌, subst, Bool, true, false, ◌&&◌, not, if◌then◌else◌, List, [], ◌∷◌, Option, Some, None, bytes_eq}
 use Rattle.std.specs.Prelude.{codes}
-use Rattle.std.specs.List.{AllByRecursion, slice_get}
+use Rattle.std.specs.List.{slice_get}
 use Rattle.bound_tree.proofs.Tests.{false-true}
-use Rattle.class_faces.specs.declared.face.FaceTy.{FaceTy}
 use Rattle.class_faces.specs.declared.face.FieldFace.{FieldFace}
 use Rattle.result_records.specs.declared.code.FindingCode.TheVariants as code
 use Rattle.tree_places.specs.PlainExpr.{PlainLexeme}
@@ -17,23 +16,22 @@ use Rattle.name_rules.specs.declared.uses.Use.{Use}
 use Rattle.name_rules.specs.declared.uses.Use.TheVariants as usage
 use Rattle.name_rules.specs.declared.scope.Entry.{Entry}
 use Rattle.name_rules.specs.declared.scope.Variable.{Variable}
-use Rattle.name_rules.specs.declared.note.Note.{Note}
 use Rattle.name_rules.specs.declared.note.Note.TheVariants.{Finding, Names}
 use Rattle.name_rules.specs.Types.{Name, Types, field_of, is_known, is_known_name}
 use Rattle.name_rules.specs.Notes.{consults, found_if}
 use Rattle.name_rules.specs.Scopes.{Scope, Meaning, IsVariable, IsField, IsHidden, IsFree, entry_of, meaning_by, variable_meaning}
-use Rattle.name_rules.specs.Places.{AnyValue, use_of, use_notes, judged}
+use Rattle.name_rules.specs.Places.{AnyValue, use_of, judged}
 use Rattle.expression_binding.specs.Stamps.{used, type_of, sound, faulty}
 use Rattle.expression_binding.specs.Before.{Before, OnType, OnValue, first_of, is_lost, is_misuse, class_before, class_of, class_of_value}
-use Rattle.expression_binding.specs.Fields.{NamedField, field_name, named_field, face_field, field_named}
-use Rattle.expression_binding.specs.Bound.{Ground, Bound, Based, constant, unknown, this_of, this_at, is_out_of_place, own_field, own_field_term, variable, meant, meaning_of, fit, before_by, type_before, field_use, field_term, field_made, field_told, select_term, select_notes}
+use Rattle.expression_binding.specs.Fields.{field_name, named_field, face_field, field_named}
+use Rattle.expression_binding.specs.Bound.{Ground, Bound, Based, constant, unknown, this_of, this_at, is_out_of_place, own_field, own_field_term, variable, meant, meaning_of, fit, before_by, field_term, field_made, field_told, select_term, select_notes}
 use Rattle.typed_units.specs.Frames.{Frame, type_in}
 use Rattle.typed_units.specs.Named as named
 use Rattle.typed_units.specs.Standing.{TypesStand}
 use Rattle.typed_units.specs.Terms.{TermTyped, literal_type}
 use Rattle.binding_types.specs.Silent.{Silent}
 use Rattle.binding_types.specs.Grounds.{frame_on, GroundFits, VariableFits, NameFits, EntryFits, ScopeFits}
-use Rattle.binding_types.proofs.Silences.{first, second, unfound_if, not-false, none_some, same_some}
+use Rattle.binding_types.proofs.Silences.{second, unfound_if, not-false, none_some, same_some}
 use Rattle.binding_types.proofs.Lookups.{find-all, found_field_known, found_field_name}
 use Rattle.binding_types.proofs.Uses.{IsUsed, use_used}
 use Rattle.binding_types.proofs.Fitting.{Sound, SoundAt, bound_fits}

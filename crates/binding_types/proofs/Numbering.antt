@@ -1,5 +1,5 @@
 -- The locals behind a statement are numbered behind those that it declares, and a part of a statement brings no name in scope.
-use Rattle.std.proofs.Common.{◌≡◌, ℕ, suc, ◌+◌, refl, ap, sym, ◌∙◌, subst, arith, add-zero, add_assoc, List, [], ◌∷◌, ◌++◌, length, append-nil, Option, Some, None}
+use Rattle.std.proofs.Common.{◌≡◌, ℕ, suc, ◌+◌, refl, ap, sym, ◌∙◌, add-zero, add_assoc, List, [], ◌∷◌, ◌++◌, length, append-nil, Option, Some, None}
 use Rattle.std.proofs.lemmas.List.{length-append}
 use Rattle.class_faces.specs.declared.face.FaceTy.{FaceTy}
 use Rattle.java_tree.specs.declared.stmt.AssignOp.{AssignOp}
@@ -20,7 +20,6 @@ use Rattle.statement_binding.specs.Finals.{Written}
 use Rattle.statement_binding.specs.Writes.{action, top_action, by_sign, by_top_sign}
 use Rattle.statement_binding.specs.Heads.{first_done, behind_first, last_done, locked_by, held_by, returned, condition_if_any}
 use Rattle.statement_binding.specs.Statements.{behind, behind_all, statement, statements, branch}
-use Rattle.statement_binding.specs.Bodies.{top_statement, top_statements, written_behind}
 use Rattle.typed_units.specs.Declared.{declared_types, all_declared}
 use Rattle.binding_types.specs.Written.{IsPart, StmtWritten, OtherWritten, AllWritten}
 

@@ -1,20 +1,16 @@
 -- Operators and parentheses, without a finding.
-use Rattle.std.proofs.Common.{◌≡◌, ℕ, refl, ap, sym, ◌∙◌, subst, Bool, true, false, ◌||◌, Option, Some, None}
-use Rattle.class_faces.specs.declared.face.FaceTy.{FaceTy}
+use Rattle.std.proofs.Common.{◌≡◌, ℕ, refl, ap, sym, ◌∙◌, subst, Bool, ◌||◌, Some}
 use Rattle.class_faces.specs.declared.face.FaceTy.TheVariants as face
 use Rattle.java_tree.specs.declared.expr.BinaryOp.{BinaryOp}
 use Rattle.java_tree.specs.declared.expr.BinaryOp.TheVariants as operator
-use Rattle.bound_tree.specs.declared.name.ValueType.{ValueType}
-use Rattle.bound_tree.specs.declared.name.ValueType.TheVariants as value
 use Rattle.bound_tree.specs.declared.tree.Stamp.{Stamp}
 use Rattle.bound_tree.specs.declared.tree.UnaryOp.{UnaryOp}
 use Rattle.bound_tree.specs.declared.tree.UnaryOp.TheVariants as unary
 use Rattle.bound_tree.specs.Tree.{Term, stamp_of, is_bad}
 use Rattle.bound_tree.specs.Tree as t
-use Rattle.name_rules.specs.Types.{Types}
-use Rattle.name_rules.specs.Places.{Place, AnyValue, Of}
-use Rattle.expression_binding.specs.Stamps.{sound, faulty, unless_bad, stamp_from, restamped}
-use Rattle.expression_binding.specs.Bound.{operand_type, on_one, left_place, right_place, beside, type_on_two, term_on_two, is_either_bad, joined}
+use Rattle.name_rules.specs.Places.{AnyValue, Of}
+use Rattle.expression_binding.specs.Stamps.{sound, unless_bad, stamp_from, restamped}
+use Rattle.expression_binding.specs.Bound.{operand_type, on_one, left_place, right_place, beside, type_on_two, term_on_two, joined}
 use Rattle.typed_units.specs.Frames.{Frame, Suited, Compared, type_in}
 use Rattle.typed_units.specs.Terms.{TermTyped, UnaryFits}
 use Rattle.binding_types.proofs.Silences.{or-fails}

@@ -1,6 +1,5 @@
 -- A local that isn't in scope before a statement is live before it only where it is live behind it: each is set before it is named.
-use Rattle.std.proofs.Common.{◌≡◌, ℕ, suc, ◌==◌, refl, ap, sym, ◌∙◌, subst, Bool, true, false, ◌||◌, if◌then◌else◌, List, [], ◌∷◌, ◌++◌, Option, Some, None}
-use Rattle.std.specs.List.{AllByRecursion}
+use Rattle.std.proofs.Common.{◌≡◌, ℕ, suc, ◌==◌, refl, sym, ◌∙◌, subst, Bool, true, false, ◌||◌, if◌then◌else◌, [], ◌∷◌, ◌++◌, Option, Some, None}
 use Rattle.bound_tree.proofs.Tests.{false-true}
 use Rattle.class_faces.specs.declared.face.FaceTy.{FaceTy}
 use Rattle.class_faces.specs.declared.face.FaceTy.TheVariants as face
@@ -8,7 +7,6 @@ use Rattle.core_model.specs.declared.instr.Op.{Op}
 use Rattle.core_model.specs.declared.instr.Op.TheVariants as arithmetic
 use Rattle.java_tree.specs.declared.stmt.AssignOp.{AssignOp}
 use Rattle.java_tree.specs.declared.stmt.AssignOp.TheVariants as sign
-use Rattle.java_tree.specs.declared.stmt.StepOp.{StepOp}
 use Rattle.tree_places.specs.PlainExpr.{PlainExpr}
 use Rattle.tree_places.specs.PlainStmt.{PlainAction, PlainFirst, PlainMonitor, PlainLocal, PlainStmt, PlainStmts}
 use Rattle.tree_places.specs.PlainStmt as p
@@ -16,17 +14,17 @@ use Rattle.bound_tree.specs.declared.tree.Naming.{Naming}
 use Rattle.bound_tree.specs.Reading as reading
 use Rattle.bound_tree.specs.Tree.{Term, Statement, local_of, base_of}
 use Rattle.bound_tree.specs.Tree as t
-use Rattle.bound_tree.specs.Flows.{Flow, End, Sets, Again, in_term, in_statement, in_statements, in_any, local_named, local_set}
+use Rattle.bound_tree.specs.Flows.{Flow, End, Sets, in_term, in_statement, in_statements, in_any, local_named, local_set}
 use Rattle.bound_tree.specs.Live.{live}
 use Rattle.name_rules.specs.declared.scope.Entry.{Entry}
 use Rattle.name_rules.specs.Scopes.{Scope, in_scope}
-use Rattle.name_rules.specs.Places.{Place, Anywhere, Of, Started, Locked}
+use Rattle.name_rules.specs.Places.{Anywhere, Of, Started, Locked}
 use Rattle.expression_binding.specs.Bound.{Ground, Bound, fitted}
-use Rattle.expression_binding.specs.Stamps.{restamped, spoilt_stamp}
+use Rattle.expression_binding.specs.Stamps.{spoilt_stamp}
 use Rattle.statement_binding.specs.Finals.{Written, blank_target, is_first_write}
 use Rattle.statement_binding.specs.Locals.{local_type, declaration, initializer, with_local}
 use Rattle.statement_binding.specs.Writes.{assigned_place, is_forbidden, target_if, set, changed, int_value, step_op, one, by_sign, action, by_top_sign, top_action}
-use Rattle.statement_binding.specs.Heads.{condition, condition_if_any, first_done, behind_first, last_done, locked_by, held_by, result_place, returned}
+use Rattle.statement_binding.specs.Heads.{condition, condition_if_any, last_done, locked_by, held_by, result_place, returned}
 use Rattle.statement_binding.specs.Statements.{behind, behind_all, statement, statements, branch}
 use Rattle.statement_binding.specs.Bodies.{top_statement, top_statements, written_behind}
 use Rattle.binding_types.specs.Named.{Misses, MissesEntry, NotNamed}
@@ -241,13 +239,15 @@ mutual
   step-passes g r ls x n (p.Block opening items closing) w K k e = (statements-pass g r ls x n items w K k e, n)
   step-passes g r ls x n (p.Empty at) w K k e = (e, n)
   step-passes g r ls x n (p.Action does at) w K k e = (action-passes g ls.scope x n does K k e, n)
-  step-passes g r ls x n (p.If at test does other) w K k e =
-      (if-passes x (condition g ls.scope test).term (statement g r ls does).made (branch g r (behind ls does) other).made (fitted_keeps g ls.scope x n (Of face.Bool) test)
+  step-passes g r ls x n (p.If at test does other) w K k e = (
+    if-passes x (condition g ls.scope test).term (statement g r ls does).made (branch g r (behind ls does) other).made (fitted_keeps g ls.scope x n (Of face.Bool) test)
         (part-passes g r ls x n does w.0 w.1) (other-passes g r (behind ls does) x (moved g ls does x w.0 w.1 n) other w.2) K k e,
-        moved g ls (p.If at test does other) x tt w n)
-  step-passes g r ls x n (p.While at test does) w K k e =
-      (while-passes x (condition g ls.scope test).term (statement g r ls does).made (fitted_keeps g ls.scope x n (Of face.Bool) test) (part-passes g r ls x n does w.0 w.1) K k e,
-        moved g ls (p.While at test does) x tt w n)
+    moved g ls (p.If at test does other) x tt w n,
+  )
+  step-passes g r ls x n (p.While at test does) w K k e = (
+    while-passes x (condition g ls.scope test).term (statement g r ls does).made (fitted_keeps g ls.scope x n (Of face.Bool) test) (part-passes g r ls x n does w.0 w.1) K k e,
+    moved g ls (p.While at test does) x tt w n,
+  )
   step-passes g r ls x n (p.For at p.Nothing test last does) w K k e = (loop-passes g r ls x n (suc at) test last does w.2 w.3 (part-passes g r ls x n does w.2 w.3) K k e, n)
   step-passes g r ls x n (p.For at (p.FirstLocal l) test last does) w K k e =
       let b = declaration-passes g ls l x n _ k e in (loop-passes g r (with_local ls l) x b.1 (suc at) test last does w.2 w.3 (part-passes g r (with_local ls l) x b.1 does w.2 w.3) K k b.0, n)

@@ -1,6 +1,6 @@
 -- Types that stand one after another.
-use Rattle.std.proofs.Common.{◌≡◌, ℕ, suc, zero, ◌+◌, refl, ap, sym, ◌∙◌, subst, arith, List, [], ◌∷◌, ◌++◌, length, Option, Some, None, true}
-use Rattle.std.specs.List.{slice_get, AllByRecursion}
+use Rattle.std.proofs.Common.{◌≡◌, ℕ, suc, zero, ◌+◌, refl, subst, arith, List, [], ◌∷◌, ◌++◌, length, true}
+use Rattle.std.specs.List.{AllByRecursion}
 use Rattle.bound_tree.specs.declared.name.ValueType.{ValueType}
 use Rattle.name_rules.specs.Types.{Types}
 use Rattle.typed_units.specs.Frames.{is_known_value}

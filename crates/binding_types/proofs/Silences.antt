@@ -1,5 +1,5 @@
 -- Notes without a finding, and small facts of tests.
-use Rattle.std.proofs.Common.{◌≡◌, ℕ, refl, ap, sym, ◌∙◌, subst, Bool, true, false, ◌&&◌, ◌||◌, not, if◌then◌else◌, List, [], ◌∷◌, ◌++◌, Option, Some, None}
+use Rattle.std.proofs.Common.{◌≡◌, ℕ, refl, sym, Bool, true, false, ◌&&◌, ◌||◌, not, List, [], ◌∷◌, ◌++◌, Some, None}
 use Rattle.bound_tree.proofs.Tests.{false-true}
 use Rattle.result_records.specs.declared.code.FindingCode.{FindingCode}
 use Rattle.name_rules.specs.declared.note.Note.{Note}

@@ -1,16 +1,12 @@
 -- The top level of a constructor, where final fields may be written, and the statements of a body.
-use Rattle.std.proofs.Common.{◌≡◌, ℕ, suc, ◌+◌, refl, ap, sym, ◌∙◌, subst, add-zero, Bool, true, false, if◌then◌else◌, List, [], ◌∷◌, ◌++◌, length, Option, Some, None}
-use Rattle.class_faces.specs.declared.face.FaceTy.{FaceTy}
+use Rattle.std.proofs.Common.{◌≡◌, ℕ, ◌+◌, ap, sym, ◌∙◌, subst, add-zero, List, length, None}
 use Rattle.tree_places.specs.PlainStmt.{PlainAction, PlainStmt, PlainStmts}
 use Rattle.tree_places.specs.PlainStmt as p
 use Rattle.bound_tree.specs.declared.name.ValueType.{ValueType}
 use Rattle.bound_tree.specs.Reading as reading
-use Rattle.bound_tree.specs.Tree.{Statement}
-use Rattle.name_rules.specs.Scopes.{Scope}
 use Rattle.expression_binding.specs.Bound.{Ground}
-use Rattle.expression_binding.specs.Stamps.{type_given}
 use Rattle.statement_binding.specs.Finals.{Written}
-use Rattle.statement_binding.specs.Statements.{behind, behind_all, statement, statements}
+use Rattle.statement_binding.specs.Statements.{behind, statement}
 use Rattle.statement_binding.specs.Bodies.{top_statement, top_statements, written_behind}
 use Rattle.typed_units.specs.Statements.{StatementTyped, StatementsTyped}
 use Rattle.typed_units.specs.Declared.{declared_types, all_declared}
@@ -86,7 +82,9 @@ tops-typed g locals body w ls names p.no_stmts h placed s = tt
 tops-typed g locals body w ls names (p.stmt x others) h placed s =
     let more = written_behind g w ls.scope x in
     let rest = all_declared (reading.statements (top_statements g more (behind ls x) others).made) in
-    let here = top-sound g locals body w ls names x h.0 (placed_first locals ls.next (declared_types (top_statement g w ls x).made) rest placed) (first (top_statement g w ls x).notes _ s) in
-    (here.0, tops-typed g locals body more (behind ls x) here.1 others h.1
-      (subst (λ (n : ℕ). Placed locals n rest) (sym (top-next g w ls x h.0)) (placed_second locals ls.next (declared_types (top_statement g w ls x).made) rest placed))
-      (second (top_statement g w ls x).notes _ s))
+    let here = top-sound g locals body w ls names x h.0 (placed_first locals ls.next (declared_types (top_statement g w ls x).made) rest placed) (first (top_statement g w ls x).notes _ s) in (
+      here.0,
+      tops-typed g locals body more (behind ls x) here.1 others h.1
+          (subst (λ (n : ℕ). Placed locals n rest) (sym (top-next g w ls x h.0)) (placed_second locals ls.next (declared_types (top_statement g w ls x).made) rest placed))
+          (second (top_statement g w ls x).notes _ s),
+    )

@@ -1,6 +1,5 @@
 -- Statements that are bound without a finding are typed.
-use Rattle.std.proofs.Common.{◌≡◌, ℕ, suc, ◌+◌, refl, ap, sym, ◌∙◌, subst, Bool, true, false, not, if◌then◌else◌, List, [], ◌∷◌, ◌++◌, length, Option, Some, None, is_some, is_none}
-use Rattle.std.specs.List.{AllByRecursion}
+use Rattle.std.proofs.Common.{◌≡◌, ℕ, suc, refl, sym, subst, Bool, true, false, not, if◌then◌else◌, List, [], ◌∷◌, ◌++◌, Option, Some, None}
 use Rattle.class_faces.specs.declared.face.FaceTy.{FaceTy}
 use Rattle.class_faces.specs.declared.face.FaceTy.TheVariants as face
 use Rattle.result_records.specs.declared.code.FindingCode.TheVariants as code
@@ -8,22 +7,18 @@ use Rattle.tree_places.specs.PlainExpr.{PlainExpr}
 use Rattle.tree_places.specs.PlainStmt.{PlainAction, PlainFirst, PlainMonitor, PlainLocal, PlainStmt, PlainStmts}
 use Rattle.tree_places.specs.PlainStmt as p
 use Rattle.bound_tree.specs.declared.name.ValueType.{ValueType}
-use Rattle.bound_tree.specs.declared.name.ValueType.TheVariants as value
-use Rattle.bound_tree.specs.declared.tree.Literal.TheVariants as literal
 use Rattle.bound_tree.specs.Reading as reading
 use Rattle.bound_tree.specs.Tree.{Term, Statement}
 use Rattle.bound_tree.specs.Tree as t
 use Rattle.name_rules.specs.declared.scope.Entry.{Entry}
-use Rattle.name_rules.specs.Types.{Types, is_known, is_declared}
-use Rattle.name_rules.specs.Scopes.{Scope, in_scope, with_entry}
-use Rattle.name_rules.specs.Places.{Place, Of, Locked}
-use Rattle.expression_binding.specs.Bound.{Ground, Bound, fitted}
+use Rattle.name_rules.specs.Types.{Types, is_declared}
+use Rattle.name_rules.specs.Scopes.{Scope, in_scope}
+use Rattle.name_rules.specs.Places.{Of, Locked}
+use Rattle.expression_binding.specs.Bound.{Ground, fitted}
 use Rattle.expression_binding.specs.Stamps.{type_of, type_given}
 use Rattle.statement_binding.specs.DeclaredTypes.{declared_notes}
-use Rattle.statement_binding.specs.Done.{Done}
-use Rattle.statement_binding.specs.Locals.{local_type, declaration, declaration_notes, initializer, with_local, entry, name_found}
-use Rattle.statement_binding.specs.Writes.{action}
-use Rattle.statement_binding.specs.Heads.{condition, condition_if_any, always, first_done, behind_first, last_done, held_notes, locked_by, held_by, class_notes, result_place, returned}
+use Rattle.statement_binding.specs.Locals.{local_type, declaration, declaration_notes, initializer, with_local, name_found}
+use Rattle.statement_binding.specs.Heads.{condition, condition_if_any, first_done, behind_first, last_done, held_notes, locked_by, held_by, result_place, returned}
 use Rattle.statement_binding.specs.Statements.{behind, behind_all, statement, statements, branch}
 use Rattle.typed_units.specs.Frames.{Frame, type_in, declared_as, Suited, given_suits}
 use Rattle.typed_units.specs.Named.{is_known_result}
@@ -36,8 +31,7 @@ use Rattle.binding_types.specs.Placed.{Placed, LocalsKnown}
 use Rattle.binding_types.specs.Under.{Locals}
 use Rattle.binding_types.specs.Written.{FirstWritten, LastWritten, IsPart, StmtWritten, OtherWritten, AllWritten}
 use Rattle.binding_types.proofs.Silences.{first, second, unfound_if, not-false}
-use Rattle.binding_types.proofs.Fitting.{Sound, SoundAt, of_suits, locked_locks}
-use Rattle.binding_types.proofs.Names.{constant_sound}
+use Rattle.binding_types.proofs.Fitting.{of_suits, locked_locks}
 use Rattle.binding_types.proofs.Expressions.{fitted-sound}
 use Rattle.binding_types.proofs.Placing.{placed_first, placed_second, all_joined}
 use Rattle.binding_types.proofs.Numbering.{next-of, first_next, loop_types, held_types, part_scope}
@@ -68,9 +62,11 @@ pub declaration_typed : (g : Ground) (locals : List ValueType) (r : Option FaceT
     → Placed locals ls.next (type_of (local_type l) ∷ []) → Silent (declaration_notes g ls.scope l) → StatementTyped (frame_in g locals r) (declaration g ls l).made
 declaration_typed g locals r body ls names l placed s =
     let rest : Silent ((initializer g ls.scope l).notes ++ name_found ls.scope l) = second (declared_notes g.types l.ty) _ s in
-    let x = fitted-sound g locals (type_given r) ls.scope body.fits names (Of (local_type l)) l.value (first (initializer g ls.scope l).notes _ rest) in
-    (record { own = type_of (local_type l); is = refl; kept = placed.0 }, x.sound.typed,
-      suited_type g.types (initializer g ls.scope l).term (local_type l) (of_suits g.types (local_type l) (type_in (initializer g ls.scope l).term) (local_known g ls.scope l s) x.fits))
+    let x = fitted-sound g locals (type_given r) ls.scope body.fits names (Of (local_type l)) l.value (first (initializer g ls.scope l).notes _ rest) in (
+      record { own = type_of (local_type l); is = refl; kept = placed.0 },
+      x.sound.typed,
+      suited_type g.types (initializer g ls.scope l).term (local_type l) (of_suits g.types (local_type l) (type_in (initializer g ls.scope l).term) (local_known g ls.scope l s) x.fits),
+    )
 
 with-fits : (types : Types) (locals : List ValueType) (b : Bool) (scope : Scope) (e : Entry) → ScopeFits types locals scope → EntryFits types locals e → ScopeFits types locals (if b then scope else scope ++ e ∷ [])
 with-fits types locals true scope e names fits = names
@@ -168,10 +164,12 @@ mutual
   statement-typed g locals r body ls names (p.If at test does other) w placed s =
       let rest = second (condition g ls.scope test).notes _ s in
       let test_is = condition_typed g locals r body ls.scope names test (first (condition g ls.scope test).notes _ s) in
-      let others = declared_types (branch g r (behind ls does) other).made in
-      (test_is.0, test_is.1,
+      let others = declared_types (branch g r (behind ls does) other).made in (
+        test_is.0,
+        test_is.1,
         statement-typed g locals r body ls names does w.1 (placed_first locals ls.next (declared_types (statement g r ls does).made) others placed) (first (statement g r ls does).notes _ rest),
-        other-typed g locals r body (behind ls does) (same-fits g locals ls does w.0 w.1 names) other w.2 (after g locals r ls does others w.1 placed) (second (statement g r ls does).notes _ rest))
+        other-typed g locals r body (behind ls does) (same-fits g locals ls does w.0 w.1 names) other w.2 (after g locals r ls does others w.1 placed) (second (statement g r ls does).notes _ rest),
+      )
   statement-typed g locals r body ls names (p.While at test does) w placed s =
       let test_is = condition_typed g locals r body ls.scope names test (first (condition g ls.scope test).notes _ s) in
       (test_is.0, test_is.1, statement-typed g locals r body ls names does w.1 placed (second (condition g ls.scope test).notes _ s))
@@ -192,10 +190,14 @@ mutual
       let inner_names = first_fits g locals ls f names first_placed first_quiet in
       let test_is = test_typed g locals r body inner.scope inner_names (suc at) test (first test_of.notes _ test_quiet) in
       joined_typed (frame_in g locals r) (first_done g ls f).made loop
-      (first_typed g locals r body ls names f w.0 first_placed first_quiet)
-      (test_is.0, test_is.1,
-        (statement-typed g locals r body inner inner_names does w.3 (placed_first locals inner.next (declared_types done.made) _ behind_placed) (first done.notes _ rest),
-          last_typed g locals r body (behind inner does).scope (same-fits g locals inner does w.2 w.3 inner_names) last w.1 (second done.notes _ rest)))
+      (first_typed g locals r body ls names f w.0 first_placed first_quiet) (
+        test_is.0,
+        test_is.1,
+        (
+          statement-typed g locals r body inner inner_names does w.3 (placed_first locals inner.next (declared_types done.made) _ behind_placed) (first done.notes _ rest),
+          last_typed g locals r body (behind inner does).scope (same-fits g locals inner does w.2 w.3 inner_names) last w.1 (second done.notes _ rest),
+        ),
+      )
   statement-typed g locals r body ls names (p.Sync at held inside) w placed s =
       locked_typed g locals r body ls.scope names held (statement g r ls inside).made (first (held_notes g ls.scope held) _ s)
       (statement-typed g locals r body ls names inside w.1 (subst (Placed locals ls.next) (held_types held g ls.scope (statement g r ls inside).made) placed) (second (held_notes g ls.scope held) _ s))
@@ -213,6 +215,7 @@ mutual
   statements-typed g locals r body ls names (p.stmt x others) w placed s =
       let rest = all_declared (reading.statements (statements g r (behind ls x) others).made) in
       let here = placed_first locals ls.next (declared_types (statement g r ls x).made) rest placed in
-      let quiet = first (statement g r ls x).notes _ s in
-      (statement-typed g locals r body ls names x w.0 here quiet,
-        statements-typed g locals r body (behind ls x) (behind_fits g locals r ls x w.0 names here quiet) others w.1 (after g locals r ls x rest w.0 placed) (second (statement g r ls x).notes _ s))
+      let quiet = first (statement g r ls x).notes _ s in (
+        statement-typed g locals r body ls names x w.0 here quiet,
+        statements-typed g locals r body (behind ls x) (behind_fits g locals r ls x w.0 names here quiet) others w.1 (after g locals r ls x rest w.0 placed) (second (statement g r ls x).notes _ s),
+      )

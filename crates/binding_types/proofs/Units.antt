@@ -1,65 +1,52 @@
 -- Units that are bound with nothing found are typed.
-use Rattle.std.proofs.Common.{◌≡◌, ℕ, suc, refl, ap, sym, ◌∙◌, subst, Bool, true, false, not, ◌&&◌, ◌||◌, if◌then◌else◌, List, [], ◌∷◌, ◌++◌, map, length, Option, Some, None, bytes_eq}
+use Rattle.std.proofs.Common.{◌≡◌, ℕ, suc, refl, ap, sym, ◌∙◌, subst, Bool, true, false, not, ◌&&◌, ◌||◌, if◌then◌else◌, List, [], ◌∷◌, ◌++◌, map, Option, Some, None, bytes_eq}
 use Rattle.std.specs.Prelude.{codes}
 use Rattle.std.specs.List.{AllByRecursion}
-use Rattle.std.specs.Option.{option_map}
 use Rattle.std.proofs.lemmas.Slice.Eq.{bytes_eq-Decides}
 use Rattle.std.proofs.lemmas.List.{length-map}
 use Rattle.bound_tree.proofs.Tests.{false-true}
 use Rattle.desk_base.specs.declared.span.Span.{Span}
 use Rattle.java_tree.specs.declared.file.ClassTree.{ClassTree}
-use Rattle.java_tree.specs.declared.member.Ctor.{Ctor}
-use Rattle.java_tree.specs.declared.member.Field.{Field}
 use Rattle.java_tree.specs.declared.member.Init.{Init}
 use Rattle.java_tree.specs.declared.member.Init.TheVariants as init
-use Rattle.java_tree.specs.declared.member.Main.{Main}
-use Rattle.java_tree.specs.declared.member.Method.{Method}
 use Rattle.java_tree.specs.declared.member.MemberTree.{MemberTree}
 use Rattle.java_tree.specs.declared.member.MemberTree.TheVariants as member
-use Rattle.java_tree.specs.declared.member.Sig.{Sig}
 use Rattle.java_tree.specs.declared.token.Lexeme.{Lexeme}
 use Rattle.class_faces.specs.declared.face.FaceTy.{FaceTy}
 use Rattle.class_faces.specs.declared.face.FaceTy.TheVariants as face_ty_is
-use Rattle.class_faces.specs.declared.face.MemberFace.{MemberFace}
-use Rattle.class_faces.specs.declared.face.ParamFace.{ParamFace}
-use Rattle.class_faces.specs.Assigned.{Names, block_names}
-use Rattle.class_faces.specs.Faces.{face_ty, face_of, field_face, is_static, main_face}
+use Rattle.class_faces.specs.Assigned.{block_names}
+use Rattle.class_faces.specs.Faces.{face_ty, field_face}
 use Rattle.class_faces.specs.Keys.{key_with, member_key}
 use Rattle.result_records.specs.declared.code.FindingCode.{FindingCode}
 use Rattle.result_records.specs.declared.code.FindingCode.TheVariants as code
-use Rattle.bound_tree.specs.declared.name.ValueType.{ValueType}
-use Rattle.bound_tree.specs.declared.unit.Initial.{Initial}
 use Rattle.bound_tree.specs.declared.unit.Part.{Part}
 use Rattle.bound_tree.specs.declared.unit.Part.TheVariants as part
-use Rattle.bound_tree.specs.declared.unit.Word.{Word}
 use Rattle.tree_places.specs.Plain.{plain_ty}
 use Rattle.tree_places.specs.Numbers.{number_of}
-use Rattle.name_rules.specs.Types.{Name, Types, is_known, is_known_name, is_interface, is_declared, suits, field_of, member_in}
+use Rattle.name_rules.specs.Types.{Name, Types, is_known, is_known_name, is_interface, is_declared, suits}
 use Rattle.name_rules.specs.declared.note.Note.TheVariants.{Finding}
 use Rattle.name_rules.specs.Places.{Of, misplaced, found_unless}
 use Rattle.promise_marks.specs.declared.mark.Mark.{Mark}
-use Rattle.expression_binding.specs.Stamps.{judged_type, type_of, type_given}
+use Rattle.expression_binding.specs.Stamps.{judged_type}
 use Rattle.statement_binding.specs.DeclaredTypes.{declared_notes}
-use Rattle.statement_binding.specs.Initials.{default, written, initial, initial_notes, type_of_init, place_of_init, finding_at}
+use Rattle.statement_binding.specs.Initials.{default, written, initial, initial_notes, type_of_init, finding_at}
 use Rattle.bound_unit.specs.Names.{Faces}
 use Rattle.bound_unit.specs.UnitFacts.{UnitFacts}
 use Rattle.bound_unit.specs.Implemented.{is_among}
-use Rattle.unit_rules.specs.Headers.{word_of, header_notes}
-use Rattle.unit_rules.specs.Implements.{implements_all, implemented_once, implemented_faults, implemented_notes, bad_unless, implements_after}
+use Rattle.unit_rules.specs.Headers.{word_of}
+use Rattle.unit_rules.specs.Implements.{implements_all, implemented_once, implemented_faults, bad_unless, implements_after}
 use Rattle.unit_rules.specs.Shown.{types_shown}
 use Rattle.views.specs.Face.{Seen, face}
-use Rattle.binder.specs.Members.{Code, method_code, constructor_code, code_body, main_body, part_made, repeated_notes, member_notes, name_place}
-use Rattle.binder.specs.Params.{value_type, result_type, result_face, params_notes, result_notes}
+use Rattle.binder.specs.Members.{method_code, constructor_code, part_made, repeated_notes, name_place}
+use Rattle.binder.specs.Params.{result_notes}
 use Rattle.binder.specs.Trees.{PlainBody, PlainPart, part_as, tree_as}
 use Rattle.binder.specs.Trees as plain
-use Rattle.binder.specs.Units.{IsBound, bound_under, tokens_in}
-use Rattle.typed_units.specs.Declared.{args_types, param_type}
+use Rattle.binder.specs.Units.{bound_under, tokens_in}
 use Rattle.typed_units.specs.Standing.{TypesStand}
-use Rattle.typed_units.specs.Units.{TypedUnit, PartTyped, IsImplemented, FieldTyped, MemberShown, SigTyped, CodeTyped, BodyTyped, initial_type}
+use Rattle.typed_units.specs.Units.{PartTyped, IsImplemented, FieldTyped, MemberShown, SigTyped, initial_type}
 use Rattle.binding_types.specs.Silent.{Silent}
 use Rattle.binding_types.specs.Members.{MemberWritten, MemberSeen, UnitStands, UnitsTyped}
-use Rattle.binding_types.proofs.Silences.{first, second, unfound_if, not-false, and-first, and-second, none_some}
-use Rattle.binding_types.proofs.Known.{AllKnown}
+use Rattle.binding_types.proofs.Silences.{first, second, unfound_if, not-false, none_some}
 use Rattle.binding_types.proofs.Codes.{PlainTyped, code_typed, main_typed}
 use Rattle.binding_types.proofs.Heads.{faces_of, params_known, ty_known, args_known, face_given}
 
@@ -100,9 +87,10 @@ implements-typed : (faces : Faces) (number : Span → ℕ) (class : Name) (befor
 implements-typed faces number class before [] s = tt
 implements-typed faces number class before (w ∷ ws) s =
     let here = implemented-by faces class (not (is_among before w.text)) w.text (suc (number w.span)) (is_known_name (types_shown faces) w.text)
-          (first (implemented_faults faces class (not (is_among before w.text)) w.text (suc (number w.span))) _ s) in
-    (record { interface = here.0; answered = here.1 },
-      implements-typed faces number class (before ++ w.text ∷ []) ws (second (implemented_faults faces class (not (is_among before w.text)) w.text (suc (number w.span))) _ s))
+    (first (implemented_faults faces class (not (is_among before w.text)) w.text (suc (number w.span))) _ s) in (
+      record { interface = here.0; answered = here.1 },
+      implements-typed faces number class (before ++ w.text ∷ []) ws (second (implemented_faults faces class (not (is_among before w.text)) w.text (suc (number w.span))) _ s),
+    )
 
 -- ---- fields
 

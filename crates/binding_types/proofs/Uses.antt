@@ -1,5 +1,5 @@
 -- A use of what has a declared type that is there, without a finding, is one.
-use Rattle.std.proofs.Common.{◌≡◌, ℕ, refl, sym, Bool, true, false, if◌then◌else◌, Option, Some, None}
+use Rattle.std.proofs.Common.{◌≡◌, ℕ, refl, Bool, true, false, if◌then◌else◌, Option, Some, None}
 use Rattle.bound_tree.proofs.Tests.{false-true}
 use Rattle.class_faces.specs.declared.face.FaceTy.{FaceTy}
 use Rattle.name_rules.specs.declared.uses.Use.{Use}

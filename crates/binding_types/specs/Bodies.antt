@@ -1,13 +1,12 @@
 -- What is proved of bound bodies.
-use Rattle.std.specs.Prelude.{◌≡◌, ℕ, Bool, true, false, nat_lt, List, [], ◌++◌, length, Option, Some, None, is_some}
+use Rattle.std.specs.Prelude.{◌≡◌, ℕ, true, false, nat_lt, List, ◌++◌, length, None, is_some}
 use Rattle.std.specs.List.{AllByRecursion}
 use Rattle.bound_tree.specs.declared.name.ValueType.{ValueType}
 use Rattle.bound_tree.specs.Tree.{Statement}
-use Rattle.bound_tree.specs.Flows.{End, flow_of}
+use Rattle.bound_tree.specs.Flows.{flow_of}
 use Rattle.bound_tree.specs.Live.{live}
 use Rattle.lowering.specs.Endings.{may_end}
 use Rattle.tree_places.specs.PlainStmt.{PlainStmt}
-use Rattle.name_rules.specs.Types.{Types}
 use Rattle.name_rules.specs.Scopes.{Scope}
 use Rattle.expression_binding.specs.Bound.{Ground}
 use Rattle.expression_binding.specs.Stamps.{type_given}

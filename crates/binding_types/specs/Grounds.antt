@@ -1,5 +1,5 @@
 -- Where an expression is bound, in a frame in which it is typed.
-use Rattle.std.specs.Prelude.{◌≡◌, ℕ, Bool, true, false, List, Option, Some, None}
+use Rattle.std.specs.Prelude.{◌≡◌, true, false, List, Option, Some, None}
 use Rattle.std.specs.List.{AllByRecursion, slice_get}
 use Rattle.bound_tree.specs.declared.name.ValueType.{ValueType}
 use Rattle.bound_tree.specs.declared.name.ValueType.TheVariants as value

@@ -1,5 +1,5 @@
 -- Where the types of declared locals stand among those of a unit.
-use Rattle.std.specs.Prelude.{◌≡◌, ℕ, suc, true, List, [], ◌∷◌, Option, Some}
+use Rattle.std.specs.Prelude.{◌≡◌, ℕ, suc, true, List, [], ◌∷◌, Some}
 use Rattle.std.specs.List.{slice_get}
 use Rattle.bound_tree.specs.declared.name.ValueType.{ValueType}
 use Rattle.name_rules.specs.Types.{Types}
