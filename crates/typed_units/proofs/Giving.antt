@@ -1,6 +1,6 @@
 -- Typed expressions give values.
-use Rattle.std.proofs.Common.{◌≡◌, true, refl, ap, sym, ◌∙◌}
-use Rattle.std.specs.Prelude.{is_some, Some}
+use Rattle.std.proofs.Common.{◌≡◌, true, ap, sym, ◌∙◌}
+use Rattle.std.specs.Prelude.{is_some}
 use Rattle.bound_tree.specs.Tree.{Term}
 use Rattle.bound_tree.specs.Tree as t
 use Rattle.lowering.specs.Lower.{has_value}

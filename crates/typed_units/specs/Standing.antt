@@ -1,5 +1,5 @@
 -- What the types of a project are where none of its units has a bind finding.
-use Rattle.std.specs.Prelude.{◌≡◌, ℕ, true, List, length, Option, Some, None}
+use Rattle.std.specs.Prelude.{◌≡◌, ℕ, true, length, Some}
 use Rattle.std.specs.List.{AllByRecursion}
 use Rattle.class_faces.specs.declared.face.FieldFace.{FieldFace}
 use Rattle.class_faces.specs.declared.face.MemberFace.{MemberFace}

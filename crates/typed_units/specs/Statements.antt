@@ -1,6 +1,5 @@
 -- Statements that are typed.
-use Rattle.std.specs.Prelude.{◌≡◌, ℕ, true, Option, Some, None}
-use Rattle.class_faces.specs.declared.face.FaceTy.{FaceTy}
+use Rattle.std.specs.Prelude.{◌≡◌, true, Option, Some, None}
 use Rattle.class_faces.specs.declared.face.FaceTy.TheVariants as face
 use Rattle.bound_tree.specs.declared.name.ValueType.{ValueType}
 use Rattle.bound_tree.specs.declared.name.ValueType.TheVariants as value

@@ -1,5 +1,5 @@
 -- Expressions that are typed: each has the type that its stamp tells, and suits its place.
-use Rattle.std.specs.Prelude.{◌≡◌, ℕ, true, false, List, [], ◌∷◌, Option, Some, None}
+use Rattle.std.specs.Prelude.{◌≡◌, true, false, List, [], ◌∷◌, Some}
 use Rattle.class_faces.specs.declared.face.FaceTy.TheVariants as face
 use Rattle.class_faces.specs.declared.face.ParamFace.{ParamFace}
 use Rattle.core_model.specs.declared.instr.Op.{Op}
