@@ -9,9 +9,8 @@
 #
 # Of each unit, in the order of the keys' bytes, it prints `unit KEY`; `bind CODE PLACE SUBJECT` for each bind
 # finding; `consults` and the consulted names; and, where all units of the input bind, `places` and the places
-# of the code's steps, `code` and the number of locals, and the instructions. Input whose first line is
-# `run MAINS SCHEDULE STEPS` is run, and the state behind the run is printed: MAINS are classes with a comma
-# between two, SCHEDULE the threads that step in turn, likewise. Input that is refused gives no output.
+# of the code's steps, `code` and the number of locals, and the instructions. Input that is refused gives no
+# output.
 #
 # The program is made here, of a copy of the repository, and run by `rt try`: it is built, and not proved.
 set -u
@@ -65,14 +64,13 @@ make_program() {
         done
     done
     mkdir -p "$work/crates/unit_listing/src"
-    for module in code listing locks print runs units; do
+    for module in code listing locks print units; do
         cp "$top/crates/unit_cases/src/$module.rt" "$work/crates/unit_listing/src/" || return 1
     done
     uses=$(sed -n 's/^unit_cases: //p' "$top/crates.txt")
     { cat "$top/crates.txt" && echo "unit_listing: $uses bundle project_files"; } >"$work/crates.txt"
     put_main >"$work/crates/unit_listing/src/main.rt"
     put_files >"$work/crates/unit_listing/src/files.rt"
-    put_texts >"$work/crates/unit_listing/src/texts.rt"
     put_sites >"$work/crates/unit_listing/src/sites.rt"
 }
 
@@ -87,9 +85,7 @@ mod files;
 mod listing;
 mod locks;
 mod print;
-mod runs;
 mod sites;
-mod texts;
 mod units;
 
 use anyhow::Result;
@@ -118,21 +114,6 @@ fn put_lines(alloc: Global, out: &mut String, lines: &str, input: &[u8]) -> Resu
     Ok(())
 }
 
-fn put_run(alloc: Global, out: &mut String, words: &str, input: &[u8]) -> Result<()> {
-    let Some(project) = project_of(alloc, input)? else {
-        return Ok(());
-    };
-    if !project.binds() {
-        return Ok(());
-    }
-    let program = runs::made_program(alloc, &project)?;
-    let Ok(config) = runs::state_of(alloc, &program, runs::run_of(words)?) else {
-        return Ok(());
-    };
-    let texts = texts::texts_of(alloc, &project)?;
-    runs::put_state(out, &program, &config, texts.as_slice())
-}
-
 fn put_output(alloc: Global, out: &mut String, input: &[u8]) -> Result<()> {
     let end = input.iter().position(|byte| *byte == b'\n').unwrap_or(input.len());
     let first = str::from_utf8(&input[..end]).unwrap_or("");
@@ -142,9 +123,6 @@ fn put_output(alloc: Global, out: &mut String, input: &[u8]) -> Result<()> {
     }
     if let Some(codes) = first.strip_prefix("findings ") {
         return sites::put_findings(alloc, out, codes, rest);
-    }
-    if let Some(words) = first.strip_prefix("run ") {
-        return put_run(alloc, out, words, rest);
     }
     put_lines(alloc, out, "unit,bind,consults,places,code", input)
 }
@@ -207,69 +185,6 @@ pub(crate) fn project_of(alloc: Global, input: &[u8]) -> Result<Option<Project>>
         return Ok(None);
     };
     Ok(Some(bound(alloc, files.as_slice())?))
-}
-RUST
-}
-
-put_texts() {
-    cat <<'RUST'
-//! The texts of a project's program, in the order of their numbers: as they are first seen over the units.
-
-use crate::units::Project;
-use anyhow::Result;
-use bound_tree::{Initial, Part};
-use desk_base::Bytes;
-use lowering::{Constant, NamedCode, NamedInstr, NamedPlain};
-use std::alloc::Global;
-
-fn put_text(texts: &mut Vec<Bytes>, text: &Bytes) -> Result<()> {
-    for known in texts.as_slice() {
-        if known == text {
-            return Ok(());
-        }
-    }
-    texts.push(text.clone()?)?;
-    Ok(())
-}
-
-fn open<'a>(left: &mut Vec<&'a NamedInstr>, code: &'a NamedCode) -> Result<()> {
-    for instr in code.instrs() {
-        left.push(instr)?;
-    }
-    Ok(())
-}
-
-fn put_code_texts(alloc: Global, texts: &mut Vec<Bytes>, code: &NamedCode) -> Result<()> {
-    let mut left = Vec::new(alloc);
-    open(&mut left, code)?;
-    while let Some(instr) = left.pop() {
-        match instr {
-            NamedInstr::Do(_, NamedPlain::Const(Constant::Text(text))) => put_text(texts, text)?,
-            NamedInstr::Do(_, _) => {}
-            NamedInstr::If(_, first, second) => {
-                open(&mut left, second)?;
-                open(&mut left, first)?;
-            }
-            NamedInstr::While(_, first, second) => {
-                open(&mut left, second)?;
-                open(&mut left, first)?;
-            }
-            NamedInstr::Enter(_, block) => open(&mut left, block)?,
-            NamedInstr::EnterClass(_, _, block) => open(&mut left, block)?,
-        }
-    }
-    Ok(())
-}
-
-pub(crate) fn texts_of(alloc: Global, project: &Project) -> Result<Vec<Bytes>> {
-    let mut texts = Vec::new(alloc);
-    for unit in project.units.as_slice() {
-        if let Part::Field(_, Initial::Str(text)) = &unit.tree().part {
-            put_text(&mut texts, text)?;
-        }
-        put_code_texts(alloc, &mut texts, unit.code())?;
-    }
-    Ok(texts)
 }
 RUST
 }
