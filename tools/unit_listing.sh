@@ -309,7 +309,8 @@ RUST
 make_program || exit 2
 if [ -n "$cases" ]; then
     copy_cases || exit 2
-    cd -- "$work/crates/unit_listing" && rt try --cases "$work/cases"
+    # The compiled program alone: the interpreter takes seconds for each case.
+    cd -- "$work/crates/unit_listing" && rt try --steps 1 --cases "$work/cases"
 else
     put_input | (cd -- "$work/crates/unit_listing" && rt try)
 fi
