@@ -8,7 +8,7 @@ use class_faces::{FaceTy, FieldFace, MemberFace};
 use desk_base::{Name, PromiseKey, PromiseName, Text};
 use promise_grammar::PromiseTree;
 use std::alloc::Global;
-use views::View;
+use views::{Surfaces, View};
 
 fn put_type(out: &mut String, ty: &FaceTy) -> Result<()> {
     match ty {
@@ -225,16 +225,31 @@ fn put_asked(alloc: Global, out: &mut String, view: &View<'_>, line: &str) -> Re
     }
 }
 
+fn put_answer(alloc: Global, out: &mut String, view: &View<'_>, line: &str) -> Result<()> {
+    let mut answer = String::new(alloc);
+    put_asked(alloc, &mut answer, view, line)?;
+    writeln!(out, "{line}: {}", answer.as_str().trim_end())?;
+    Ok(())
+}
+
+fn put_answers(
+    alloc: Global,
+    out: &mut String,
+    surfaces: &Surfaces,
+    class: &str,
+    lines: &str,
+) -> Result<()> {
+    let class = name_of(alloc, class)?;
+    let view = class_view(surfaces, &class)?;
+    for line in lines.lines() {
+        put_answer(alloc, out, &view, line.trim())?;
+    }
+    Ok(())
+}
+
 /// What the class of the heading sees: each look-up and what it answers.
 pub(crate) fn put_look(alloc: Global, out: &mut String, class: &str, case: &str) -> Result<()> {
     let (file, lines) = case.split_once("\n  asked\n").context("nothing is asked")?;
     let project = project_of(alloc, file)?;
-    let class = name_of(alloc, class)?;
-    let view = class_view(&project.surfaces, &class)?;
-    for line in lines.lines() {
-        let mut answer = String::new(alloc);
-        put_asked(alloc, &mut answer, &view, line.trim())?;
-        writeln!(out, "{}: {}", line.trim(), answer.as_str().trim_end())?;
-    }
-    Ok(())
+    put_answers(alloc, out, &project.surfaces, class, lines)
 }

@@ -20,11 +20,16 @@ fn shown(alloc: Global, project: &Project, class: &str) -> Result<String> {
     Ok(out)
 }
 
+fn shown_in(alloc: Global, file: &str, class: &str) -> Result<String> {
+    let project = project_of(alloc, file)?;
+    shown(alloc, &project, class)
+}
+
 /// Whether what is printed of a class's units is the same in two files, between which a line `and` stands.
 pub(crate) fn put_same(alloc: Global, out: &mut String, files: &str, class: &str) -> Result<()> {
     let (first, second) = files.split_once("\n  and\n").context("one file alone")?;
-    let first = shown(alloc, &project_of(alloc, first)?, class)?;
-    let second = shown(alloc, &project_of(alloc, second)?, class)?;
+    let first = shown_in(alloc, first, class)?;
+    let second = shown_in(alloc, second, class)?;
     out.push_str(if first.is_empty() {
         "no units"
     } else if first.as_str() == second.as_str() {

@@ -33,16 +33,25 @@ fn put_project(
     }
 }
 
+// What is asked of the units of a case.
+fn put_bound(
+    alloc: Global,
+    out: &mut String,
+    subject: &str,
+    words: &str,
+    case: &str,
+) -> Result<()> {
+    let project = project_of(alloc, case)?;
+    put_project(alloc, out, &project, subject, words)
+}
+
 // What is asked by the heading of the case.
 fn put_case(alloc: Global, out: &mut String, heading: &str, case: &str) -> Result<()> {
     let (subject, words) = first_word(heading);
     match subject {
         "same" => put_same(alloc, out, case, words),
         "look-ups" => put_look(alloc, out, words, case),
-        _ => {
-            let project = project_of(alloc, case)?;
-            put_project(alloc, out, &project, subject, words)
-        }
+        _ => put_bound(alloc, out, subject, words, case),
     }
 }
 

@@ -69,15 +69,29 @@ pub(crate) fn bind_classes(
     Ok(())
 }
 
+fn surfaces_of(alloc: Global, classes: &[ClassTree]) -> Result<Surfaces> {
+    let mut surfaces = Surfaces::new(alloc)?;
+    add_surfaces(alloc, &mut surfaces, classes)?;
+    Ok(surfaces)
+}
+
+fn units_of(alloc: Global, surfaces: &Surfaces, classes: &[ClassTree]) -> Result<Vec<BoundUnit>> {
+    let mut units = Vec::new(alloc);
+    bind_classes(alloc, surfaces, classes, &mut units)?;
+    units.sort_by(|a, b| a.key().cmp(b.key()))?;
+    Ok(units)
+}
+
+fn project_in(alloc: Global, classes: &[ClassTree]) -> Result<Project> {
+    let surfaces = surfaces_of(alloc, classes)?;
+    let units = units_of(alloc, &surfaces, classes)?;
+    Ok(Project { surfaces, units })
+}
+
 /// The project of one Java file.
 pub(crate) fn project_of(alloc: Global, text: &str) -> Result<Project> {
     let file = read_file(alloc, text.as_bytes())?;
-    let mut surfaces = Surfaces::new(alloc)?;
-    let mut units = Vec::new(alloc);
-    add_surfaces(alloc, &mut surfaces, file.types.as_slice())?;
-    bind_classes(alloc, &surfaces, file.types.as_slice(), &mut units)?;
-    units.sort_by(|a, b| a.key().cmp(b.key()))?;
-    Ok(Project { surfaces, units })
+    project_in(alloc, file.types.as_slice())
 }
 
 impl Project {
