@@ -11,8 +11,9 @@ cat > "$crate/src/main.rt" <<'PROGRAM'
 use anyhow::{Result, anyhow};
 use binder::bind_keyed;
 use class_faces::{member_keys, text_of};
+use desk_base::Text;
 use java_reader::read_file;
-use java_tree::{ClassTree, FileTree};
+use java_tree::{ClassTree, MemberTree};
 use promise_scrub::surface_of;
 use std::alloc::Global;
 use std::time::Instant;
@@ -47,15 +48,19 @@ fn surfaces_of(alloc: Global, classes: &[ClassTree]) -> Result<Surfaces> {
     Ok(surfaces)
 }
 
+// How many bind findings a unit has.
+fn found_in(alloc: Global, class: &ClassTree, member: Option<&MemberTree>, key: Text, view: &View<'_>) -> Result<usize> {
+    let unit = bind_keyed(alloc, class, member, key, view)?;
+    Ok(unit.bind_findings().len())
+}
+
 // Binds the units of a class, and counts their bind findings.
 fn bind_class(alloc: Global, class: &ClassTree, view: &View<'_>) -> Result<usize> {
     let header = text_of(alloc, class.name.text.as_slice())?;
-    let unit = bind_keyed(alloc, class, None, header, view)?;
-    let mut found = unit.bind_findings().len();
+    let mut found = found_in(alloc, class, None, header, view)?;
     let keys = member_keys(alloc, class)?;
     for (member, key) in class.members.as_slice().iter().zip(keys.as_slice()) {
-        let unit = bind_keyed(alloc, class, Some(member), key.clone()?, view)?;
-        found = found.saturating_add(unit.bind_findings().len());
+        found = found.saturating_add(found_in(alloc, class, Some(member), key.clone()?, view)?);
     }
     Ok(found)
 }
@@ -75,39 +80,53 @@ fn micros(rt: &HostRuntime, start: &Instant) -> Result<u64> {
     Ok(u64::try_from(start.elapsed(rt)?.as_micros()).unwrap_or(u64::MAX))
 }
 
+// Trees and surfaces are each owned by one function, and lent to the others.
+fn read_once(rt: &HostRuntime, text: &str) -> Result<u64> {
+    let start = Instant::now(rt)?;
+    let file = read_file(rt.alloc(), text.as_bytes())?;
+    let took = micros(rt, &start);
+    if file.types.is_empty() { Err(anyhow!("there is no class")) } else { took }
+}
+
 fn reading(rt: &HostRuntime, text: &str) -> Result<u64> {
     let mut least = u64::MAX;
     for _round in 0..20 {
-        let start = Instant::now(rt)?;
-        let file = read_file(rt.alloc(), text.as_bytes())?;
-        least = least.min(micros(rt, &start)?);
-        if file.types.is_empty() {
-            return Err(anyhow!("there is no class"));
-        }
+        least = least.min(read_once(rt, text)?);
     }
     Ok(least)
 }
 
-fn binding(rt: &HostRuntime, file: &FileTree) -> Result<u64> {
-    let classes = file.types.as_slice();
-    let surfaces = surfaces_of(rt.alloc(), classes)?;
+fn bind_once(rt: &HostRuntime, surfaces: &Surfaces, classes: &[ClassTree]) -> Result<u64> {
+    let start = Instant::now(rt)?;
+    let found = bind_all(rt.alloc(), surfaces, classes)?;
+    let took = micros(rt, &start)?;
+    if found > 0 { Err(anyhow!("something is found")) } else { Ok(took) }
+}
+
+fn bind_times(rt: &HostRuntime, surfaces: &Surfaces, classes: &[ClassTree]) -> Result<u64> {
     let mut least = u64::MAX;
     for _round in 0..20 {
-        let start = Instant::now(rt)?;
-        let found = bind_all(rt.alloc(), &surfaces, classes)?;
-        least = least.min(micros(rt, &start)?);
-        if found > 0 {
-            return Err(anyhow!("something is found"));
-        }
+        least = least.min(bind_once(rt, surfaces, classes)?);
     }
     Ok(least)
+}
+
+fn bind_classes(rt: &HostRuntime, classes: &[ClassTree]) -> Result<u64> {
+    let surfaces = surfaces_of(rt.alloc(), classes)?;
+    bind_times(rt, &surfaces, classes)
+}
+
+fn binding(rt: &HostRuntime, text: &str) -> Result<u64> {
+    let file = read_file(rt.alloc(), text.as_bytes())?;
+    bind_classes(rt, file.types.as_slice())
 }
 
 // The times to read and to bind so many classes.
 fn measured(rt: &HostRuntime, count: u32) -> Result<(u64, u64)> {
     let text = file_text(rt.alloc(), count)?;
-    let file = read_file(rt.alloc(), text.as_bytes())?;
-    Ok((reading(rt, text.as_str())?, binding(rt, &file)?))
+    let read = reading(rt, text.as_str())?;
+    let bound = binding(rt, text.as_str())?;
+    Ok((read, bound))
 }
 
 fn main(rt: HostRuntime) -> Result<()> {
