@@ -1,5 +1,5 @@
 -- Files that are judged have their answers, or pass a limit.
-use Rattle.std.proofs.Common.{◌≡◌, ℕ, List, inl, inr, length, map, refl, sym, ap, ◌∙◌, subst}
+use Rattle.std.proofs.Common.{◌≡◌, ℕ, List, inl, inr, length, map, sym, ap, ◌∙◌, subst}
 use Rattle.std.specs.Prelude.{Option, Some, None, All}
 use Rattle.std.specs.Borrow.{Bor}
 use Rattle.std.proofs.lemmas.Slice.Zip.{AllZip-long}
@@ -17,8 +17,7 @@ use Rattle.project_files.specs.Trees.{ClassText, TreeFile, types_of}
 use Rattle.project_files.specs.declared.error.FilesError.{FilesError}
 use Rattle.project_files.specs.declared.error.FilesError.TheVariants as files_error
 use Rattle.project_surfaces.specs.Fit.{IsFit}
-use Rattle.project_surfaces.specs.Gathered.{AreGathered, UnfitOf}
-use Rattle.project_surfaces.specs.declared.gather.ProjectSurfaces.{ProjectSurfaces}
+use Rattle.project_surfaces.specs.Gathered.{SurfacesOf, UnfitOf}
 use Rattle.project_judge.specs.FilesCause.{files_cause}
 use Rattle.project_judge.specs.Judged.{AreJudged}
 use Rattle.project_judge.specs.Project.{AnswersOn, Findings, IsCauseOf, IsFaultOf, IsFull, ProjectAnswers}
@@ -30,45 +29,47 @@ use Rattle.project_judge.specs.declared.error.ProjectError.TheVariants as error
 use Rattle.project_judge.specs.declared.judging.Judging.{Judging}
 use Rattle.project_judge.proofs.NamedSurfaces.{surfaced}
 
-fit_of : (types : List ClassText) (o : Option (Bor (List ℕ))) → o ≡ None → UnfitOf types o → All IsFit types
+pub fit_of : (types : List ClassText) (o : Option (Bor (List ℕ))) → o ≡ None → UnfitOf types o → All IsFit types
 fit_of types o none fit = subst (λ (x : Option (Bor (List ℕ))). UnfitOf types x) none fit
 
-judged_by : (trees : List TreeFile) (made : ProjectSurfaces) (n : ℕ) (judging : Judging) → AreGathered (types_of trees) made
-    → (AreSurfaced made.surfaces trees → AreJudged made.surfaces (all_units trees) n judging) → AreJudged made.surfaces (all_units trees) n judging
-judged_by trees made n judging so judged = judged (surfaced trees made.surfaces made.keys.items so.surfaces)
+-- files that are judged, with how many promises there are: with these surfaces, if they have them
+judged_by : (trees : List TreeFile) (surfaces : List Surface) (keys : List PromiseKey) (n : ℕ) (judging : Judging) → SurfacesOf (types_of trees) surfaces keys
+    → (AreSurfaced surfaces trees → AreJudged surfaces (all_units trees) n judging) → AreJudged surfaces (all_units trees) n judging
+judged_by trees surfaces keys n judging so judged = judged (surfaced trees surfaces keys so)
 
-found_by : (trees : List TreeFile) (made : ProjectSurfaces) (n : ℕ) (judging : Judging) → AreGathered (types_of trees) made → AreJudged made.surfaces (all_units trees) n judging
-    → Findings trees made.keys.items judging.units.items
-found_by trees made n judging so judged = record { surfaces = made.surfaces; surfaced = so.surfaces; each = judged.each }
+found_by : (trees : List TreeFile) (surfaces : List Surface) (keys : List PromiseKey) (n : ℕ) (judging : Judging) → SurfacesOf (types_of trees) surfaces keys
+    → AreJudged surfaces (all_units trees) n judging → Findings trees keys judging.units.items
+found_by trees surfaces keys n judging so judged = record { surfaces = surfaces; surfaced = so; each = judged.each }
 
-pub answers_so : (trees : List TreeFile) (made : ProjectSurfaces) (n count : ℕ) (judging : Judging) (passed : Option LimitName) (answers : Answers) → n ≡ length made.keys.items → count ≡ length judging.units.items
-    → (AreSurfaced made.surfaces trees → AreJudged made.surfaces (all_units trees) n judging)
-    → passed ≡ None → (AreJudged made.surfaces (all_units trees) n judging → passed ≡ passed_limit n (map finding_of (all_found judging.units.items)))
-    → AreAnswers (sizes_with trees count) (paths_of trees) (promise_list made.keys.items) (project_findings judging.units.items) answers
-    → AreGathered (types_of trees) made → made.unfit ≡ None → ProjectAnswers trees answers
-answers_so trees made n count judging passed answers long counted judged none limit answered so unfit =
-    let all = judged_by trees made n judging so judged in
-    let P : ℕ → Type 0 = λ k. AreAnswers (sizes_with trees k) (paths_of trees) (promise_list made.keys.items) (project_findings judging.units.items) answers in
+pub answers_so : (trees : List TreeFile) (surfaces : List Surface) (keys : List PromiseKey) (n count : ℕ) (judging : Judging) (passed : Option LimitName) (answers : Answers)
+    → n ≡ length keys → count ≡ length judging.units.items
+    → (AreSurfaced surfaces trees → AreJudged surfaces (all_units trees) n judging)
+    → passed ≡ None → (AreJudged surfaces (all_units trees) n judging → passed ≡ passed_limit n (map finding_of (all_found judging.units.items)))
+    → AreAnswers (sizes_with trees count) (paths_of trees) (promise_list keys) (project_findings judging.units.items) answers
+    → SurfacesOf (types_of trees) surfaces keys → All IsFit (types_of trees) → ProjectAnswers trees answers
+answers_so trees surfaces keys n count judging passed answers long counted judged none limit answered so fit =
+    let all = judged_by trees surfaces keys n judging so judged in
+    let P : ℕ → Type 0 = λ k. AreAnswers (sizes_with trees k) (paths_of trees) (promise_list keys) (project_findings judging.units.items) answers in
     record {
-      fit = fit_of (types_of trees) made.unfit unfit so.form;
-      keys = made.keys.items;
+      fit = fit;
+      keys = keys;
       units = judging.units.items;
-      found = found_by trees made n judging so all;
+      found = found_by trees surfaces keys n judging so all;
       few = ap (λ k. passed_limit k (map finding_of (all_found judging.units.items))) (sym long) ∙ sym (limit all) ∙ none;
       answered = subst P (counted ∙ AllZip-long _ (all_units trees) judging.units.items all.each) answered;
     }
 
-pub full_so : (trees : List TreeFile) (made : ProjectSurfaces) (n : ℕ) (judging : Judging) (passed : Option LimitName) (which : LimitName) → n ≡ length made.keys.items
-    → (AreSurfaced made.surfaces trees → AreJudged made.surfaces (all_units trees) n judging)
-    → passed ≡ Some which → (AreJudged made.surfaces (all_units trees) n judging → passed ≡ passed_limit n (map finding_of (all_found judging.units.items)))
-    → AreGathered (types_of trees) made → made.unfit ≡ None → IsFull trees which
-full_so trees made n judging passed which long judged some limit so unfit =
-    let all = judged_by trees made n judging so judged in
+pub full_so : (trees : List TreeFile) (surfaces : List Surface) (keys : List PromiseKey) (n : ℕ) (judging : Judging) (passed : Option LimitName) (which : LimitName) → n ≡ length keys
+    → (AreSurfaced surfaces trees → AreJudged surfaces (all_units trees) n judging)
+    → passed ≡ Some which → (AreJudged surfaces (all_units trees) n judging → passed ≡ passed_limit n (map finding_of (all_found judging.units.items)))
+    → SurfacesOf (types_of trees) surfaces keys → All IsFit (types_of trees) → IsFull trees which
+full_so trees surfaces keys n judging passed which long judged some limit so fit =
+    let all = judged_by trees surfaces keys n judging so judged in
     record {
-      fit = fit_of (types_of trees) made.unfit unfit so.form;
-      keys = made.keys.items;
+      fit = fit;
+      keys = keys;
       units = judging.units.items;
-      found = found_by trees made n judging so all;
+      found = found_by trees surfaces keys n judging so all;
       many = ap (λ k. passed_limit k (map finding_of (all_found judging.units.items))) (sym long) ∙ sym (limit all) ∙ some;
     }
 

@@ -1,8 +1,8 @@
 -- How many types there are with one more file.
-use Rattle.std.proofs.Common.{◌≡◌, ℕ, ◌+◌, ◌<◌, List, [], ◌∷◌, ◌++◌, length, map, take, get_or, refl, sym, ap, ◌∙◌}
+use Rattle.std.proofs.Common.{◌≡◌, ℕ, ◌+◌, ◌<◌, List, [], ◌∷◌, ◌++◌, length, map, take, get_or, sym, ap, ◌∙◌}
 use Rattle.std.proofs.lemmas.List.{flat_map_more, length-append, length-map, map-append, take_more}
 use Rattle.project_files.specs.Kept.{tree_file}
-use Rattle.project_files.specs.Trees.{ClassText, TreeFile, class_in, types_of}
+use Rattle.project_files.specs.Trees.{TreeFile, class_in, types_of}
 use Rattle.project_files.specs.declared.reading.ReadFile.{ReadFile}
 use Rattle.project_judge.specs.Sizes.{paths_of}
 

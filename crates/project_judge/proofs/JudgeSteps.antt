@@ -4,7 +4,7 @@ use Rattle.std.specs.Prelude.{Option, Some, None, IfSome, MatchOption}
 use Rattle.std.specs.Borrow.{Bor}
 use Rattle.std.specs.Option.{option_copied}
 use Rattle.std.proofs.lemmas.Option.{slice_get_past, slice_get_read}
-use Rattle.std.specs.List.{AllZip, flat_map, slice_get}
+use Rattle.std.specs.List.{AllZip, slice_get}
 use Rattle.std.proofs.lemmas.List.{flat_map_more, map-append}
 use Rattle.java_tree.specs.declared.member.MemberTree.{MemberTree}
 use Rattle.java_tree.specs.declared.token.Token.{Token}
@@ -13,13 +13,11 @@ use Rattle.promise_scrub.specs.declared.surface.Surface.{Surface}
 use Rattle.views.specs.Face.{Seen}
 use Rattle.result_records.specs.declared.finding.Finding.{Finding}
 use Rattle.finding_limits.specs.Tallied.{Tallies}
-use Rattle.finding_limits.specs.declared.tally.Tally.{Tally}
 use Rattle.project_answers.specs.Gathered.{all_found, finding_of}
 use Rattle.project_answers.specs.Lines.{sited}
 use Rattle.project_answers.specs.declared.gather.UnitFound.{UnitFound}
-use Rattle.project_answers.specs.declared.sited.Sited.{Sited}
 use Rattle.project_surfaces.proofs.Zipped.{zip_push}
-use Rattle.project_judge.specs.Found.{IsFound, IsFoundAt, IsUnitFound, asides_of, seen_of}
+use Rattle.project_judge.specs.Found.{IsFound, IsUnitFound, asides_of}
 use Rattle.project_judge.specs.Judged.{AreJudged, IsAt}
 use Rattle.project_judge.specs.Units.{UnitAt, unit_at, unit_tokens}
 use Rattle.project_judge.specs.declared.judging.Judging.{Judging}

@@ -17,7 +17,7 @@ use Rattle.java_tree.specs.declared.file.ClassTree.{ClassTree}
 use Rattle.promise_scrub.specs.declared.surface.Surface.{Surface}
 use Rattle.desk_base.specs.declared.key.PromiseKey.{PromiseKey}
 use Rattle.project_files.specs.Trees.{ClassText, TreeFile, class_in, types_of}
-use Rattle.project_surfaces.specs.Gathered.{IsFace, SurfacesOf, filed}
+use Rattle.project_surfaces.specs.Gathered.{IsFace, SurfacesOf}
 use Rattle.project_surfaces.proofs.Named.{named_face}
 use Rattle.views.specs.Face.{surface_named}
 use Rattle.views.specs.Filed.{with_surface}

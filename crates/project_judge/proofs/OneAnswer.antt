@@ -1,16 +1,14 @@
 -- Files that have answers have no cause why they aren't judged.
-use Rattle.std.proofs.Common.{◌≡◌, ◌⊎◌, ℕ, List, [], ◌∷◌, ◌++◌, length, map, inl, inr, refl, sym, ap, ◌∙◌, subst, arith, zero}
+use Rattle.std.proofs.Common.{◌≡◌, ℕ, List, [], ◌∷◌, ◌++◌, length, map, inl, inr, refl, sym, ap, ◌∙◌, subst, arith}
 use Rattle.std.specs.Prelude.{Option, Some, None, All, Contains}
 use Rattle.std.specs.List.{AllZip}
 use Rattle.std.proofs.lemmas.List.Elements.{All-contains, Contains-append_right}
 use Rattle.desk_base.specs.declared.key.PromiseKey.{PromiseKey}
-use Rattle.desk_base.specs.declared.limit.LimitName.{LimitName}
 use Rattle.java_tree.specs.declared.file.ClassTree.{ClassTree}
 use Rattle.java_tree.specs.declared.member.MemberTree.{MemberTree}
 use Rattle.bundle.specs.Entry.{Entry}
 use Rattle.promise_scrub.specs.Surfaces.{Surface}
 use Rattle.promise_scrub.specs.declared.surface.Surface.{Surface as Face}
-use Rattle.result_records.specs.declared.finding.Finding.{Finding}
 use Rattle.report.specs.declared.answers.Answers.{Answers}
 use Rattle.views.specs.Face.{Seen}
 use Rattle.bound_unit.specs.UnitFacts.{UnitFacts}
@@ -26,7 +24,7 @@ use Rattle.project_files.specs.Trees.{ClassText, TreeFile, types_of}
 use Rattle.project_files.specs.declared.error.FilesError.{FilesError}
 use Rattle.project_files.specs.declared.error.FilesError.TheVariants as files_error
 use Rattle.project_surfaces.specs.Fit.{FirstUnfit, IsFit}
-use Rattle.project_surfaces.specs.Gathered.{IsFace, SurfacesOf, all_keys, filed}
+use Rattle.project_surfaces.specs.Gathered.{IsFace, all_keys, filed}
 use Rattle.project_judge.specs.Found.{IsUnitFound, asides_of, seen_of}
 use Rattle.project_judge.specs.Project.{AnswersOn, Findings, IsCauseOf, passed_by}
 use Rattle.project_judge.specs.Units.{UnitAt, all_units, unit_tokens}

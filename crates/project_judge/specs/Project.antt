@@ -1,5 +1,5 @@
 -- What files answer, or why they aren't judged.
-use Rattle.std.specs.Prelude.{◌≡◌, ◌⊎◌, ℕ, List, length, map, Option, Some, None, All}
+use Rattle.std.specs.Prelude.{◌≡◌, ◌⊎◌, List, length, map, Option, Some, None, All}
 use Rattle.std.specs.List.{AllZip}
 use Rattle.desk_base.specs.declared.key.PromiseKey.{PromiseKey}
 use Rattle.desk_base.specs.declared.limit.LimitName.{LimitName}

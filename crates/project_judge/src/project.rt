@@ -1,32 +1,35 @@
-ghost use Rattle.std.specs.Prelude.{◌≡◌, All, IfErr, IfOk, None, map};
+ghost use Rattle.std.specs.Prelude.{◌≡◌, All, IfErr, IfOk, map};
 ghost use Rattle.project_answers.specs.Laws.{IsBlamedByRow};
 ghost use Rattle.project_files.specs.Kept.{files_of, tree_file};
 ghost use Rattle.project_files.specs.Repeats.{NoRepeat};
 ghost use Rattle.project_files.specs.Trees.{types_of};
-ghost use Rattle.project_surfaces.specs.Gathered.{AreGathered};
+ghost use Rattle.project_surfaces.specs.Fit.{IsFit};
+ghost use Rattle.project_surfaces.specs.Gathered.{SurfacesOf};
 ghost use Rattle.project_judge.specs.Project.{AnswersOn, IsCauseOf, IsFaultOf, ProjectAnswers};
 
 use crate::answer::answer;
 use crate::error::{ProjectError, files_cause};
 use crate::judging::judge_files;
 use bundle::FileEntry;
+use desk_base::PromiseKey;
 use project_files::{ReadFile, read_project};
-use project_surfaces::{ProjectSurfaces, project_surfaces};
+use project_surfaces::project_surfaces;
 use report::Answers;
 use std::alloc::Global;
+use views::Surfaces;
 
-// Judges files whose types have these surfaces and are judged so far.
+// Judges files whose types have these surfaces and promises, and are all judged so far.
 fn judge_fit<'a>(
     alloc: Global,
     read: &[ReadFile<'a>],
-    made: ProjectSurfaces<'a>,
+    surfaces: &Surfaces,
+    keys: Vec<PromiseKey>,
 ) -> Result<Answers, ProjectError<'a>>
-    ensures answers { IfOk result (λ answers. AreGathered (types_of (map tree_file read.now)) made.entry → made.entry.unfit ≡ None → ProjectAnswers (map tree_file read.now) answers) }
+    ensures answers { IfOk result (λ answers. SurfacesOf (types_of (map tree_file read.now)) surfaces.now keys.items → All IsFit (types_of (map tree_file read.now)) → ProjectAnswers (map tree_file read.now) answers) }
     ensures blamed { IfOk result (λ answers. All (IsBlamedByRow answers.findings) answers.verdicts) }
-    ensures cause { IfErr result (λ error. AreGathered (types_of (map tree_file read.now)) made.entry → made.entry.unfit ≡ None → IsFaultOf (map tree_file read.now) error) }
+    ensures cause { IfErr result (λ error. SurfacesOf (types_of (map tree_file read.now)) surfaces.now keys.items → All IsFit (types_of (map tree_file read.now)) → IsFaultOf (map tree_file read.now) error) }
 {
-    let ProjectSurfaces { surfaces, keys, .. } = made;
-    let judging = judge_files(alloc, read, &surfaces, keys.len())?;
+    let judging = judge_files(alloc, read, surfaces, keys.len())?;
     match judging.tally.passed() {
         Some(limit) => Err(ProjectError::Limit(limit)),
         None => {
@@ -45,7 +48,10 @@ fn judge_read<'a>(alloc: Global, read: &[ReadFile<'a>]) -> Result<Answers, Proje
     let made = project_surfaces(alloc, read)?;
     match made.unfit {
         Some(path) => Err(ProjectError::Unfit(path)),
-        None => judge_fit(alloc, read, made),
+        None => {
+            let keys = made.keys;
+            judge_fit(alloc, read, &made.surfaces, keys)
+        }
     }
 }
 

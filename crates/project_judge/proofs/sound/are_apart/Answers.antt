@@ -1,5 +1,5 @@
 use Rattle.project_judge.proofs.PromiseOrder.{apart, rising_more}
-use Rattle.std.proofs.Common.{ℕ, ◌<◌, ◌≤◌, length, arith, refl}
+use Rattle.std.proofs.Common.{◌≤◌, length, arith}
 use Rattle.project_judge.proofs.sound.are_apart.Goals as goal
 
 pub loop-i-preserved : goal.loop-i-preserved

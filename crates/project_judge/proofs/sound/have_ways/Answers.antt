@@ -1,4 +1,4 @@
-use Rattle.std.proofs.Common.{List, refl, subst, take_all, ◌∙◌}
+use Rattle.std.proofs.Common.{List, refl, subst, take_all}
 use Rattle.std.specs.Prelude.{All}
 use Rattle.std.proofs.lemmas.List.Elements.{All-more}
 use Rattle.project_answers.specs.declared.sited.Sited.{Sited}
