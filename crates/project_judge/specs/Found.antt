@@ -7,7 +7,7 @@ use Rattle.promise_scrub.specs.declared.surface.Surface.{Surface}
 use Rattle.result_records.specs.declared.finding.Finding.{Finding}
 use Rattle.views.specs.Face.{Seen, surface_named}
 use Rattle.bound_unit.specs.UnitFacts.{UnitFacts}
-use Rattle.binder.specs.Bound.{IsBound}
+use Rattle.binder.specs.Units.{IsBound}
 use Rattle.unit_judge.specs.Judged.{unit_found}
 use Rattle.project_answers.specs.Lines.{sited}
 use Rattle.project_answers.specs.declared.gather.UnitFound.{UnitFound}

@@ -87,10 +87,3 @@ IsCauseOf files (error.Unread path why) = (passed_by_files files ≡ None) × Is
 IsCauseOf files (error.Repeated name first second) = Taken files (λ trees. FirstRepeat (types_of trees) name first second)
 IsCauseOf files (error.Unfit path) = Read files (λ trees. FirstUnfit (types_of trees) path.now)
 IsCauseOf files error.OutOfMemory = Unit {0}
-
--- ---- files that can't be refused
-
--- all types are judged so far, and whatever is found in them passes no limit
-pub record IsWithin (trees : List TreeFile) : Type 0 where
-  pub fit : All IsFit (types_of trees)
-  pub few : (keys : List PromiseKey) (units : List UnitFound) → Findings trees keys units → passed_by keys units ≡ None

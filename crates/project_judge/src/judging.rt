@@ -94,7 +94,8 @@ impl Judging {
             → AreJudged surfaces (units ++ spec.member_units at.now.file lines.old.text.now at.now.class.now keys.now at.now.class.now.members) n self.new) }
         ensures same { lines.new.text.now ≡ lines.old.text.now }
     {
-        for (i, member) in at.class.members.as_slice().iter().enumerate() {
+        let members = at.class.members.as_slice();
+        for (i, member) in members.iter().enumerate() {
             self.put_member(alloc, at, lines, member, keys.get(i))?;
         }
         Ok(())

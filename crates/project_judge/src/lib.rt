@@ -6,10 +6,12 @@
 mod answer;
 mod error;
 mod judging;
+mod laws;
 mod project;
 mod sizes;
 mod sound;
 mod units;
 
 pub use error::ProjectError;
+pub use laws::answered_files_have_no_cause;
 pub use project::judge_project;
