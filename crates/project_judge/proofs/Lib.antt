@@ -1,6 +1,6 @@
 pub mod UnitSteps
 pub mod JudgeSteps
 pub mod NamedSurfaces
-pub mod Ordering
+pub mod PromiseOrder
 pub mod OneAnswer
 pub mod Counts
