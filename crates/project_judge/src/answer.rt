@@ -1,11 +1,10 @@
-ghost use Rattle.std.specs.Prelude.{◌≡◌, All, IfOk, map};
+ghost use Rattle.std.specs.Prelude.{◌≡◌, All, IfOk, map, vec_len};
 ghost use Rattle.project_answers.specs.Answered.{AreAnswers};
 ghost use Rattle.project_answers.specs.Gathered.{project_findings};
 ghost use Rattle.project_answers.specs.Laws.{IsBlamedByRow};
 ghost use Rattle.project_answers.specs.Promises.{promise_list};
 ghost use Rattle.project_files.specs.Kept.{tree_file};
 ghost use Rattle.project_judge.specs.Sizes.{paths_of, sizes_with};
-ghost use Rattle.std.specs.Global.{vec_len};
 
 use crate::sizes::{paths_of, sizes_of};
 use crate::sound::{are_among, are_apart, have_ways};

@@ -45,7 +45,7 @@ impl<T: Drop> From<AllocFailed<T>> for ProjectError<'_> {
 
 /// The same cause, of a project that is to be judged.
 pub(crate) fn files_cause(error: FilesError<'_>) -> ProjectError<'_>
-    ensures { result ≡ files_cause error }
+    ensures { result ≡ files_cause error.entry }
 {
     match error {
         FilesError::Limit(which) => ProjectError::Limit(which),

@@ -1,8 +1,9 @@
-ghost use Rattle.std.specs.Prelude.{◌≡◌, All, IfErr, IfOk, map};
+ghost use Rattle.std.specs.Prelude.{◌≡◌, All, IfErr, IfOk, None, map};
 ghost use Rattle.project_answers.specs.Laws.{IsBlamedByRow};
 ghost use Rattle.project_files.specs.Kept.{files_of, tree_file};
 ghost use Rattle.project_files.specs.Repeats.{NoRepeat};
 ghost use Rattle.project_files.specs.Trees.{types_of};
+ghost use Rattle.project_surfaces.specs.Gathered.{AreGathered};
 ghost use Rattle.project_judge.specs.Project.{AnswersOn, IsCauseOf, IsFaultOf, ProjectAnswers};
 
 use crate::answer::answer;
