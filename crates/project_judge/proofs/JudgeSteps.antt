@@ -1,8 +1,9 @@
 -- One more unit that is judged.
-use Rattle.std.proofs.Common.{◌≡◌, ℕ, ◌+◌, List, [], ◌∷◌, ◌++◌, map, refl, sym, ap, ◌∙◌, subst}
+use Rattle.std.proofs.Common.{◌≡◌, ℕ, ◌+◌, List, [], ◌∷◌, ◌++◌, map, refl, sym, ap, ◌∙◌, subst, arith}
 use Rattle.std.specs.Prelude.{Option}
 use Rattle.std.specs.List.{AllZip, flat_map}
 use Rattle.std.proofs.lemmas.List.{flat_map_more, map-append}
+use Rattle.java_tree.specs.declared.member.MemberTree.{MemberTree}
 use Rattle.java_tree.specs.declared.token.Token.{Token}
 use Rattle.promise_scrub.specs.declared.surface.Aside.{Aside}
 use Rattle.promise_scrub.specs.declared.surface.Surface.{Surface}
@@ -17,7 +18,7 @@ use Rattle.project_answers.specs.declared.sited.Sited.{Sited}
 use Rattle.project_surfaces.proofs.Zipped.{zip_push}
 use Rattle.project_judge.specs.Found.{IsFound, IsFoundAt, IsUnitFound, asides_of, seen_of}
 use Rattle.project_judge.specs.Judged.{AreJudged, IsAt}
-use Rattle.project_judge.specs.Units.{UnitAt, unit_tokens}
+use Rattle.project_judge.specs.Units.{UnitAt, unit_at, unit_tokens}
 use Rattle.project_judge.specs.declared.judging.Judging.{Judging}
 use Rattle.project_judge.specs.declared.units.ClassAt.{ClassAt}
 
@@ -26,21 +27,7 @@ pub found_back : (file : ℕ) (text : List ℕ) (tokens : List Token) (findings 
 found_back file text tokens [] = refl
 found_back file text tokens (f ∷ fs) = ap (λ l. f ∷ l) (found_back file text tokens fs)
 
--- found under the class's view of the surfaces
-pub found_at : (surfaces : List Surface) (at : ClassAt) (u : UnitAt) (made : UnitFound) (findings : List Finding) → IsAt surfaces at → u.class ≡ at.class.now
-    → IsFound at.class.now u.member u.key at.asides.now at.view findings → made.key ≡ u.key → made.found.items ≡ map (sited u.file u.text (unit_tokens at.class.now u.member)) findings
-    → IsFoundAt (asides_of surfaces at.class.now) (seen_of surfaces at.class.now) (record { file = u.file; text = u.text; class = at.class.now; member = u.member; key = u.key }) made
-found_at surfaces at u made findings is same found key placed =
-    let P : Seen → Type 0 = λ seen. IsFound at.class.now u.member u.key at.asides.now seen findings in
-    let Q : List Aside → Type 0 = λ asides. IsFound at.class.now u.member u.key asides (seen_of surfaces at.class.now) findings in
-    record {
-      findings = findings;
-      found = subst Q is.asides (subst P is.view found);
-      key = key;
-      placed = placed;
-    }
-
-pub unit_more : (surfaces : List Surface) (units : List UnitAt) (n : ℕ) (old new : Judging) (u : UnitAt) (made : UnitFound) (findings : List Finding) → AreJudged surfaces units n old
+unit_more : (surfaces : List Surface) (units : List UnitAt) (n : ℕ) (old new : Judging) (u : UnitAt) (made : UnitFound) (findings : List Finding) → AreJudged surfaces units n old
     → IsUnitFound surfaces u made → new.units.items ≡ old.units.items ++ made ∷ [] → map finding_of made.found.items ≡ findings
     → ((promises : ℕ) (more : List Finding) → Tallies old.tally promises more → Tallies new.tally promises (more ++ findings))
     → AreJudged surfaces (units ++ u ∷ []) n new
@@ -56,3 +43,36 @@ unit_more surfaces units n old new u made findings judged found pushed same coun
       each = subst P (sym pushed) (zip_push (IsUnitFound surfaces) units old.units.items u made judged.each found);
       counted = subst Q more (counted n (map finding_of (all_found old.units.items)) judged.counted);
     }
+
+-- no unit so far
+pub none_judged : (surfaces : List Surface) (n : ℕ) (judging : Judging) → judging.units.items ≡ [] → Tallies judging.tally (0 + n) [] → AreJudged surfaces [] n judging
+none_judged surfaces n judging none counted =
+    let P : List UnitFound → Type 0 = λ l. AllZip (IsUnitFound surfaces) [] l in
+    let Q : List UnitFound → Type 0 = λ l. Tallies judging.tally n (map finding_of (all_found l)) in
+    let R : ℕ → Type 0 = λ k. Tallies judging.tally k [] in
+    let same : 0 + n ≡ n = omega arith in
+    record {
+      each = subst P (sym none) tt;
+      counted = subst Q (sym none) (subst R same counted);
+    }
+
+-- a unit that is bound and judged under its class's view
+pub unit_judged : (surfaces : List Surface) (units : List UnitAt) (n : ℕ) (old new : Judging) (at : ClassAt) (text : List ℕ) (m : Option MemberTree) (key given : List ℕ) (findings counted : List Finding) (tokens : List Token)
+    (made : UnitFound) → IsAt surfaces at → AreJudged surfaces units n old → given ≡ key → IsFound at.class.now m given at.asides.now at.view findings → counted ≡ findings → tokens ≡ unit_tokens at.class.now m
+    → made.key ≡ key → made.found.items ≡ map (sited at.file text tokens) findings → new.units.items ≡ old.units.items ++ made ∷ []
+    → ((promises : ℕ) (more : List Finding) → Tallies old.tally promises more → Tallies new.tally promises (more ++ counted))
+    → AreJudged surfaces (units ++ unit_at at.file text at.class.now m key ∷ []) n new
+unit_judged surfaces units n old new at text m key given findings counted tokens made is judged same found same-counted same-tokens keyed placed pushed tallied =
+    let P : Seen → Type 0 = λ seen. IsFound at.class.now m key (asides_of surfaces at.class.now) seen findings in
+    let Q : List Aside → Type 0 = λ asides. IsFound at.class.now m key asides at.view findings in
+    let R : List ℕ → Type 0 = λ k. IsFound at.class.now m k at.asides.now at.view findings in
+    let S : List Finding → Type 0 = λ l. (promises : ℕ) (more : List Finding) → Tallies old.tally promises more → Tallies new.tally promises (more ++ l) in
+    let sites = placed ∙ ap (λ t. map (sited at.file text t) findings) same-tokens in
+    unit_more surfaces units n old new (unit_at at.file text at.class.now m key) made findings judged
+    (record {
+      findings = findings;
+      found = subst P is.view (subst Q is.asides (subst R same found));
+      key = keyed;
+      placed = sites;
+    })
+    pushed (ap (map finding_of) sites ∙ found_back at.file text (unit_tokens at.class.now m) findings) (subst S same-counted tallied)

@@ -3,21 +3,27 @@
 
 ghost use Rattle.std.specs.Prelude.{◌≡◌, All, Contains, IsTrue, map};
 ghost use Rattle.consistency.specs.Among.{FindingAmong, FindingsAmong, LinkAmong, WayAmong};
-ghost use Rattle.consistency.specs.Keys.{Distinct};
+ghost use Rattle.consistency.specs.Keys.{Distinct, key_cmp};
+ghost use Rattle.std.specs.Ordering.{is_lt};
 ghost use Rattle.project_answers.specs.Gathered.{finding_of};
 ghost use Rattle.project_answers.specs.Laws.{HasWay};
 
 use desk_base::PromiseKey;
 use project_answers::Sited;
 use result_records::{Alternative, Finding, FindingCode, FindingLink};
-use std::cmp::Ordering;
+
+fn is_before(a: &PromiseKey, b: &PromiseKey) -> bool
+    ensures { result ≡ is_lt (key_cmp a.now b.now) }
+{
+    a.cmp(b).is_lt()
+}
 
 /// Whether no promise of a list that is in order is there twice.
 pub(crate) fn are_apart(promises: &[PromiseKey]) -> bool
     ensures { IsTrue result → Distinct promises.now }
 {
     for i in 1..promises.len() {
-        if promises[i - 1].cmp(&promises[i]) != Ordering::Less {
+        if !is_before(&promises[i - 1], &promises[i]) {
             return false;
         }
     }
