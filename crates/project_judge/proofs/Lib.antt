@@ -4,3 +4,4 @@ pub mod NamedSurfaces
 pub mod PromiseOrder
 pub mod OneAnswer
 pub mod Counts
+pub mod Answering

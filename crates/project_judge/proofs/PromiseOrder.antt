@@ -45,7 +45,7 @@ two_apart ps rising i j p up at at' =
     sorted_far is_before order ps (λ k d first less. never_back (get_or ps k d) (get_or ps (k + 1) d) (rising k d less)) (i + 1) j p (omega arith) low in
     let one = at_is ps i p at in
     let other = at_is ps j p at' in
-    let yes : is_before (get_or ps i p) (get_or ps (i + 1) p) ≡ true = next in
+    let so : is_before (get_or ps i p) (get_or ps (i + 1) p) ≡ true = next in
     cc
 
 pub apart : (ps : List PromiseKey) (high : ℕ) → length ps ≤ high → AllAdjacentBelow Before ps high → Distinct ps
@@ -63,8 +63,8 @@ pub found_among : (ps : List PromiseKey) (i : ℕ) (p : PromiseKey) → i < leng
 found_among ps i p low at = Contains-from_at ps p (i, low, λ d. exact_keys (get_or ps i d) p (at d))
 
 pub found_in : (ps : List PromiseKey) (p : PromiseKey) (r : Result ℕ ℕ) → IfOk r (HoldsAt (λ y. key_cmp y p ≡ Equal) ps) → IsSearchInRange r (length ps) → is_ok r ≡ true → Contains ps p
-found_in ps p (Ok k) at bound yes = found_among ps k p bound at
-found_in ps p (Err k) at bound yes = absurd (cc)
+found_in ps p (Ok k) at bound so = found_among ps k p bound at
+found_in ps p (Err k) at bound so = absurd (cc)
 
 -- one more that comes behind
 pub rising_more : (ps : List PromiseKey) (i : ℕ) (a b : PromiseKey) → 0 < i → AllAdjacentBelow Before ps i → i < length ps → a ≡ get_or ps (i - 1) a → b ≡ get_or ps i b → Before a b → AllAdjacentBelow Before ps (i + 1)

@@ -21,9 +21,9 @@ fn judge_fit<'a>(
     read: &[ReadFile<'a>],
     made: ProjectSurfaces<'a>,
 ) -> Result<Answers, ProjectError<'a>>
-    ensures answers { IfOk result (λ answers. AreGathered (types_of (map tree_file read.now)) made → made.unfit ≡ None → ProjectAnswers (map tree_file read.now) answers) }
+    ensures answers { IfOk result (λ answers. AreGathered (types_of (map tree_file read.now)) made.entry → made.entry.unfit ≡ None → ProjectAnswers (map tree_file read.now) answers) }
     ensures blamed { IfOk result (λ answers. All (IsBlamedByRow answers.findings) answers.verdicts) }
-    ensures cause { IfErr result (λ error. AreGathered (types_of (map tree_file read.now)) made → made.unfit ≡ None → IsFaultOf (map tree_file read.now) error) }
+    ensures cause { IfErr result (λ error. AreGathered (types_of (map tree_file read.now)) made.entry → made.entry.unfit ≡ None → IsFaultOf (map tree_file read.now) error) }
 {
     let ProjectSurfaces { surfaces, keys, .. } = made;
     let judging = judge_files(alloc, read, &surfaces, keys.len())?;

@@ -15,6 +15,6 @@ loop-sited-preserved c =
     (All-push (FindingAmong c.args.promises.now) (map finding_of (take i found)) (finding_of one) c.loop-sited.invariant (c.if-not-is_among_whole.ensures refl))
 
 pub returns : goal.returns
-returns c yes =
+returns c so =
     let P : List Sited → Type 0 = λ l. FindingsAmong c.args.promises.now (map finding_of l) in
     subst P (take_all c.loop-sited.sited-index c.args.found.now c.loop-sited-test.false) c.loop-sited.invariant

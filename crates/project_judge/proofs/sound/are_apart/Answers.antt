@@ -10,4 +10,4 @@ loop-i-preserved c = record {
 }
 
 pub returns : goal.returns
-returns c yes = let over : length c.args.promises.now ≤ c.loop-i.i = omega arith in apart c.args.promises.now c.loop-i.i over c.loop-i.invariant.rising
+returns c so = let over : length c.args.promises.now ≤ c.loop-i.i = omega arith in apart c.args.promises.now c.loop-i.i over c.loop-i.invariant.rising

@@ -10,6 +10,6 @@ loop-sited-preserved c =
     All-more HasWay c.args.found.now c.loop-sited.sited-index c.sited-item.result c.loop-sited-test.true c.loop-sited.invariant (subst HasWay c.sited-item.is (c.if-not-has_way.ensures refl))
 
 pub returns : goal.returns
-returns c yes =
+returns c so =
     let P : List (Sited) → Type 0 = λ l. All HasWay l in
     subst P (take_all c.loop-sited.sited-index c.args.found.now c.loop-sited-test.false) c.loop-sited.invariant

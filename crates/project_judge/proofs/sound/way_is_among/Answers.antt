@@ -10,6 +10,6 @@ loop-link-preserved c =
     All-more (LinkAmong c.args.promises.now) c.as_slice-link-items.result.now c.loop-link.link-index c.link-item.result c.loop-link-test.true c.loop-link.invariant (subst (LinkAmong c.args.promises.now) c.link-item.is (c.if-not-link_is_among.ensures refl))
 
 pub returns : goal.returns
-returns c yes =
+returns c so =
     let P : List (FindingLink) → Type 0 = λ l. All (LinkAmong c.args.promises.now) l in
     subst P (take_all c.loop-link.link-index c.as_slice-link-items.result.now c.loop-link-test.false ∙ c.as_slice-link-items.ensures) c.loop-link.invariant

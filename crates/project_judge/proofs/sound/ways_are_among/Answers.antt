@@ -10,6 +10,6 @@ loop-way-preserved c =
     All-more (WayAmong c.args.promises.now) c.args.ways.now c.loop-way.way-index c.way-item.result c.loop-way-test.true c.loop-way.invariant (subst (WayAmong c.args.promises.now) c.way-item.is (c.if-not-way_is_among.ensures refl))
 
 pub returns : goal.returns
-returns c yes =
+returns c so =
     let P : List (List FindingLink) → Type 0 = λ l. All (WayAmong c.args.promises.now) l in
     subst P (take_all c.loop-way.way-index c.args.ways.now c.loop-way-test.false) c.loop-way.invariant
