@@ -1,5 +1,5 @@
 -- Surfaces that are put in stay there under their names.
-use Rattle.std.proofs.Common.{◌≡◌, ℕ, Bool, true, false, cond, List, [], ◌∷◌, ◌++◌, map, refl, sym, ap, ◌∙◌, subst}
+use Rattle.std.proofs.Common.{◌≡◌, ℕ, ◌<◌, length, get_or, arith, Bool, true, false, cond, List, [], ◌∷◌, ◌++◌, map, refl, sym, ap, ◌∙◌, subst}
 use Rattle.std.specs.Prelude.{Option, Some, None, All, IsSome, fold}
 use Rattle.std.specs.List.{AllZip}
 use Rattle.std.specs.Ordering.{match_ordering, nat_cmp}
@@ -7,6 +7,9 @@ use Rattle.std.specs.declared.cmp.Ordering.{Ordering}
 use Rattle.std.specs.declared.cmp.Ordering.TheVariants.{Less, Equal, Greater}
 use Rattle.std.specs.Cmp.Lexicographic.{slice_cmp}
 use Rattle.std.specs.Str.{bytes_eq}
+use Rattle.std.proofs.lemmas.List.{get_or-map, length-map}
+use Rattle.project_files.specs.Kept.{tree_file}
+use Rattle.project_files.specs.declared.reading.ReadFile.{ReadFile}
 use Rattle.std.proofs.lemmas.List.Elements.{All-cons, All-head, All-nil, All-tail}
 use Rattle.std.proofs.lemmas.Map.Lookups.{exact_bytes}
 use Rattle.std.proofs.lemmas.Slice.Eq.{bytes_eq-Decides}
@@ -116,3 +119,9 @@ pub surfaced : (trees : List TreeFile) (surfaces : List Surface) (keys : List Pr
 surfaced trees surfaces keys so =
     let P : List Surface → Type 0 = λ l. All (HasType l) (types_of trees) in
     by_files surfaces trees (subst P (sym so.in_order) (all_there (types_of trees) so.faces [] so.each))
+
+pub surfaced_at : (surfaces : List Surface) (read : List ReadFile) (i : ℕ) (r : ReadFile) → i < length read → r ≡ get_or read i r → AreSurfaced surfaces (map tree_file read) → All (IsSurfaced surfaces) r.tree.types
+surfaced_at surfaces read i r low is all =
+    let P : TreeFile → Type 0 = AllOf surfaces in
+    let same : get_or (map tree_file read) i (tree_file r) ≡ tree_file r = get_or-map tree_file read i r (tree_file r) low ∙ ap tree_file (sym is) in
+    subst P same (all i (tree_file r) (omega (arith, low, length-map read tree_file)))

@@ -7,6 +7,7 @@ ghost use Rattle.project_judge.specs.Judged.{AreJudged, IsAt};
 ghost use Rattle.project_judge.specs.Surfaced.{AreSurfaced, IsSurfaced};
 ghost use Rattle.project_judge.specs.Units as spec;
 
+use crate::sizes::counted;
 use crate::units::{ClassAt, findings_of, unit_tokens};
 use class_faces::{member_keys, text_of};
 use desk_base::{OutOfMemory, Text};
@@ -177,7 +178,7 @@ pub(crate) fn judge_files(
 {
     let mut judging = Judging::new(alloc, promises);
     for (i, file) in read.iter().enumerate() {
-        let number = u32::try_from(i).map_err(|_| OutOfMemory)?;
+        let number = counted(i)?;
         judging.put_file(alloc, number, file, surfaces)?;
     }
     Ok(judging)

@@ -8,8 +8,8 @@ use project_answers::Sizes;
 use project_files::ReadFile;
 use std::alloc::Global;
 
-// A count as an answer has it; one of 2^32 is more than memory has room for.
-fn counted(count: usize) -> Result<u32, OutOfMemory>
+/// A count as an answer has it; one of 2^32 is more than memory has room for.
+pub(crate) fn counted(count: usize) -> Result<u32, OutOfMemory>
     ensures { IfOk result (λ number. number ≡ count) }
 {
     u32::try_from(count).map_err(|_| OutOfMemory)
