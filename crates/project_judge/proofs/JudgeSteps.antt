@@ -1,7 +1,10 @@
 -- One more unit that is judged.
-use Rattle.std.proofs.Common.{◌≡◌, ℕ, ◌+◌, List, [], ◌∷◌, ◌++◌, map, refl, sym, ap, ◌∙◌, subst, arith}
-use Rattle.std.specs.Prelude.{Option}
-use Rattle.std.specs.List.{AllZip, flat_map}
+use Rattle.std.proofs.Common.{◌≡◌, ℕ, ◌+◌, ◌<◌, ◌≤◌, length, get_or, List, [], ◌∷◌, ◌++◌, map, refl, sym, ap, ◌∙◌, subst, arith}
+use Rattle.std.specs.Prelude.{Option, Some, None, IfSome, MatchOption}
+use Rattle.std.specs.Borrow.{Bor}
+use Rattle.std.specs.Option.{option_copied}
+use Rattle.std.proofs.lemmas.Option.{slice_get_past, slice_get_read}
+use Rattle.std.specs.List.{AllZip, flat_map, slice_get}
 use Rattle.std.proofs.lemmas.List.{flat_map_more, map-append}
 use Rattle.java_tree.specs.declared.member.MemberTree.{MemberTree}
 use Rattle.java_tree.specs.declared.token.Token.{Token}
@@ -76,3 +79,9 @@ unit_judged surfaces units n old new at text m key given findings counted tokens
       placed = sites;
     })
     pushed (ap (map finding_of) sites ∙ found_back at.file text (unit_tokens at.class.now m) findings) (subst S same-counted tallied)
+
+-- what is looked up at a place of a list
+pub looked_up : {Q : Bor (List ℕ) → Type 0} (keys : List (List ℕ)) (i : ℕ) (r : Option (Bor (List ℕ))) → IfSome r (λ x. x.now ≡ get_or keys i x.now) → MatchOption r (length keys ≤ i) (λ x. (i < length keys) × Q x)
+    → option_copied r ≡ slice_get keys i
+looked_up keys i (Some x) same found = sym (slice_get_read keys (length keys) i x.now refl found.0 same)
+looked_up keys i None same past = sym (slice_get_past keys i past)

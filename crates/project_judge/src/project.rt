@@ -27,10 +27,13 @@ fn judge_fit<'a>(
 {
     let ProjectSurfaces { surfaces, keys, .. } = made;
     let judging = judge_files(alloc, read, &surfaces, keys.len())?;
-    if let Some(limit) = judging.tally.passed() {
-        return Err(ProjectError::Limit(limit));
+    match judging.tally.passed() {
+        Some(limit) => Err(ProjectError::Limit(limit)),
+        None => {
+            let answers = answer(alloc, read, keys, judging.units)?;
+            Ok(answers)
+        }
     }
-    Ok(answer(alloc, read, keys, judging.units)?)
 }
 
 // Judges files that are read.
@@ -40,10 +43,10 @@ fn judge_read<'a>(alloc: Global, read: &[ReadFile<'a>]) -> Result<Answers, Proje
     ensures cause { IfErr result (λ error. NoRepeat (types_of (map tree_file read.now)) → IsFaultOf (map tree_file read.now) error) }
 {
     let made = project_surfaces(alloc, read)?;
-    if let Some(path) = made.unfit {
-        return Err(ProjectError::Unfit(path));
+    match made.unfit {
+        Some(path) => Err(ProjectError::Unfit(path)),
+        None => judge_fit(alloc, read, made),
     }
-    judge_fit(alloc, read, made)
 }
 
 /// Judges files, in any order: their answers, or the first cause why they aren't judged, of a limit of
