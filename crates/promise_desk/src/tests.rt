@@ -240,11 +240,7 @@ fn ends_as_the_input_says(rt: HostRuntime) -> Result<(), Fail> {
 
 /// Headers of a file, how many bytes of a comment stand behind its class, and how the run ends.
 const LONG_FILES: [(&str, usize, &str); 2] = [
-    (
-        "file Account.java 262144\n",
-        262004,
-        BROKEN_REPORT,
-    ),
+    ("file Account.java 262144\n", 262004, BROKEN_REPORT),
     (
         "file Account.java 262145\n",
         262005,
