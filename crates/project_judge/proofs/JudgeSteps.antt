@@ -81,7 +81,7 @@ unit_judged surfaces units n old new at text m key given findings counted tokens
     pushed (ap (map finding_of) sites ∙ found_back at.file text (unit_tokens at.class.now m) findings) (subst S same-counted tallied)
 
 -- what is looked up at a place of a list
-pub looked_up : {Q : Bor (List ℕ) → Type 0} (keys : List (List ℕ)) (i : ℕ) (r : Option (Bor (List ℕ))) → IfSome r (λ x. x.now ≡ get_or keys i x.now) → MatchOption r (length keys ≤ i) (λ x. (i < length keys) × Q x)
+pub looked_up : (Q : Bor (List ℕ) → Type 0) (keys : List (List ℕ)) (i : ℕ) (r : Option (Bor (List ℕ))) → IfSome r (λ x. x.now ≡ get_or keys i x.now) → MatchOption r (length keys ≤ i) (λ x. (i < length keys) × Q x)
     → option_copied r ≡ slice_get keys i
-looked_up keys i (Some x) same found = sym (slice_get_read keys (length keys) i x.now refl found.0 same)
-looked_up keys i None same past = sym (slice_get_past keys i past)
+looked_up Q keys i (Some x) same found = sym (slice_get_read keys (length keys) i x.now refl found.0 same)
+looked_up Q keys i None same past = sym (slice_get_past keys i past)

@@ -14,7 +14,7 @@ loop-i-preserved c = record {
       let text = c.args.lines.now.text.now in
       let members = c.as_slice-members.result.now in
       more_members surfaces units n c.put_member.new.self at.file text c.loop-i.lines.text.now at.class.now c.args.keys.now members c.loop-i.i c.index-members-i.result (option_copied c.get.result)
-      c.loop-i-test.true c.index-members-i.is c.loop-i.invariant.same (looked_up c.args.keys.now c.loop-i.i c.get.result c.get.ensures.lookup.1 c.get.ensures.lookup.3)
+      c.loop-i-test.true c.index-members-i.is c.loop-i.invariant.same (looked_up _ c.args.keys.now c.loop-i.i c.get.result c.get.ensures.lookup.1 c.get.ensures.lookup.3)
       (c.in_ok-put_member.ensures.put surfaces (units ++ member_units at.file text at.class.now c.args.keys.now (take c.loop-i.i members)) n is (c.loop-i.invariant.put surfaces units n is judged));
   same = c.put_member.ensures.same ∙ c.loop-i.invariant.same;
 }
