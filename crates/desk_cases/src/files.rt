@@ -1,10 +1,9 @@
-//! Cases of whole files: of `java_reader` and `first_form`.
+//! Cases of whole files: of `java_reader`.
 
 use crate::notation::text_of;
 use crate::surfaces::put_bytes;
 use crate::trees::sort_of;
 use anyhow::{Context, Result, bail};
-use first_form::is_first_form;
 use java_reader::{ReadError, furthest, line_of, read_file};
 use java_tree::{ClassTree, FileTree, MemberTree, TypeKind};
 use std::alloc::Global;
@@ -75,20 +74,10 @@ fn put_outline(out: &mut String, file: &FileTree) -> Result<()> {
     Ok(())
 }
 
-fn put_form(alloc: Global, out: &mut String, file: &FileTree) -> Result<()> {
-    out.push_str(if is_first_form(alloc, file)? {
-        "yes"
-    } else {
-        "no"
-    })?;
-    Ok(())
-}
-
 // What is to be told of a file that is read.
-fn put_file(alloc: Global, out: &mut String, words: &str, file: &FileTree) -> Result<()> {
+fn put_file(out: &mut String, words: &str, file: &FileTree) -> Result<()> {
     match words {
         "outlined" => put_outline(out, file),
-        "of the first form" => put_form(alloc, out, file),
         "furthest" => Ok(()),
         _ => put_bytes(out, b"read"),
     }
@@ -96,7 +85,7 @@ fn put_file(alloc: Global, out: &mut String, words: &str, file: &FileTree) -> Re
 
 fn put_text(alloc: Global, out: &mut String, words: &str, text: &[u8]) -> Result<()> {
     match read_file(alloc, text) {
-        Ok(file) => put_file(alloc, out, words, &file),
+        Ok(file) => put_file(out, words, &file),
         Err(error) if words != "furthest" => put_error(out, error),
         Err(ReadError::Grammar { at }) => Ok(write!(out, "{}", furthest(alloc, text, at)?)?),
         Err(_) => Ok(()),

@@ -24,7 +24,6 @@ fn call_whole(name: &str) -> bool {
         "promise_grammar one_tree" => promise_grammar::one_tree(),
         "bundle one_bundle" => bundle::one_bundle(),
         "bundle one_fault" => bundle::one_fault(),
-        "first_form ascii_names" => first_form::ascii_names(),
         _ => return false,
     }
     true

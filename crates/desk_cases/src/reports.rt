@@ -1,4 +1,4 @@
-//! Cases of `bundle`, `report` and `first_project`. Answers are written as parts with `; ` between them:
+//! Cases of `bundle` and `report`. Answers are written as parts with `; ` between them:
 //! `sizes` with the numbers of files, types and units; verdicts, as `firm PROMISE`, `inconsistent PROMISE
 //! blame FINDING` or `contingent PROMISE rests LINK`; and findings that hold or fail with their places, as
 //! `held FINDING at PATH:LINE SUBJECT` or `failing` with the same.
@@ -8,10 +8,9 @@ use crate::notation::text_of;
 use crate::surfaces::put_bytes;
 use crate::table::first_word;
 use anyhow::{Context, Result, bail};
-use bundle::{BundleError, check_bundle, read_bundle};
+use bundle::{BundleError, check_bundle};
 use consistency::Verdict;
 use desk_base::{Bytes, Items, Text};
-use first_project::judge_project;
 use report::{Answers, FindingRow, VerdictRow, report_text, verdict_line};
 use result_records::Finding;
 use std::alloc::Global;
@@ -23,16 +22,6 @@ fn put_bundle(alloc: Global, out: &mut String, bytes: &[u8]) -> Result<()> {
         Err(BundleError::OutOfMemory) => out.push_str("out of memory")?,
     }
     Ok(())
-}
-
-fn put_judged(alloc: Global, out: &mut String, bytes: &[u8]) -> Result<()> {
-    let Ok(files) = read_bundle(alloc, bytes) else {
-        bail!("no bundle");
-    };
-    match judge_project(alloc, files.as_slice()) {
-        Ok(answers) => put_bytes(out, report_text(alloc, &answers)?.as_slice()),
-        Err(_) => bail!("a project that isn't judged"),
-    }
 }
 
 fn row_of(alloc: Global, verdict: Verdict, written: &str) -> Result<VerdictRow> {
@@ -125,7 +114,7 @@ fn put_report(alloc: Global, out: &mut String, written: &str) -> Result<()> {
     put_bytes(out, report_text(alloc, &answers)?.as_slice())
 }
 
-/// Whether a text is a bundle, what is reported on one, the report of answers, or the line of a verdict.
+/// Whether a text is a bundle, the report of answers, or the line of a verdict.
 pub(crate) fn put_case(alloc: Global, out: &mut String, words: &str, line: &str) -> Result<()> {
     match words {
         "of answers" => put_report(alloc, out, line),
@@ -133,7 +122,6 @@ pub(crate) fn put_case(alloc: Global, out: &mut String, words: &str, line: &str)
             let row = verdict_of(alloc, line)?;
             put_bytes(out, verdict_line(alloc, &row)?.as_slice())
         }
-        "on a bundle" => put_judged(alloc, out, text_of(alloc, line)?.as_slice()),
         "on bytes" => put_bundle(alloc, out, text_of(alloc, line)?.as_slice()),
         _ => bail!("no cases of report {words}"),
     }

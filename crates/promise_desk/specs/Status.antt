@@ -44,7 +44,7 @@ place_of error.OutOfMemory = 0
 abbrev pub unread_line : List ℕ → ReadError → List ℕ
 unread_line path why = codes "unreadable " ++ path ++ codes " " ++ kind_of why ++ codes " at " ++ decimal (place_of why) ++ codes "\n"
 
--- the line that names a file which isn't of the first form
+-- the line that names a file which has a type that isn't judged so far
 abbrev pub unfit_line : List ℕ → List ℕ
 unfit_line path = codes "unreadable " ++ path ++ codes " form at 0\n"
 

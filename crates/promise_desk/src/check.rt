@@ -9,8 +9,8 @@ use crate::status::Status;
 use bundle::{BundleError, read_bundle};
 use consistency::Verdict;
 use desk_base::{Bytes, LimitName, Name, OutOfMemory};
-use first_project::{ProjectError, judge_project};
 use java_reader::ReadError;
+use project_judge::{ProjectError, judge_project};
 use report::{Answers, report_text};
 use result_records::Put;
 use std::alloc::Global;
@@ -115,7 +115,7 @@ fn unread(alloc: Global, path: &[u8], why: ReadError) -> Result<Ending, OutOfMem
     })
 }
 
-// The line that names a file which isn't of the first form.
+// The line that names a file which has a type that isn't judged so far.
 fn unfit(alloc: Global, path: &[u8]) -> Result<Ending, OutOfMemory>
     ensures { IfOk result (λ ending. (ending.status ≡ Status.Unreadable) × (text_of ending.text ≡ unfit_line path.now)) }
 {

@@ -16,7 +16,7 @@ use crate::status::Status;
 use crate::words::{Command, WordsError, read_words};
 use bundle::one_bundle;
 use desk_base::{Keeper, LimitName, OutOfMemory, Sink, Source, Steps};
-use java_reader::one_tree;
+use project_judge::answered_files_have_no_cause;
 use std::alloc::Global;
 
 // The ending of a status whose line is always the same.
@@ -64,8 +64,8 @@ fn run<I: Source>(alloc: Global, words: &Vec<String>, input: &mut I) -> Ending
 ///
 /// 0 and 1: a bundle was read to the input's end and its report written, 1 where a verdict is
 /// inconsistent. 2: the words are no command. 3: a take failed. 4: a give failed. 6: the input is no
-/// bundle. 7: a file isn't read, or isn't of the first form. 8: two types have one name. 9: a limit is passed. 11: memory was
-/// wanting.
+/// bundle. 7: a file isn't read, or has a type that isn't judged so far. 8: two types have one name. 9: a limit
+/// is passed. 11: memory was wanting.
 pub fn desk_main<I: Source, O: Sink, K: Keeper, L>(
     alloc: Global,
     words: &Vec<String>,
@@ -85,7 +85,7 @@ pub fn desk_main<I: Source, O: Sink, K: Keeper, L>(
         × WroteFront (O.written out.old) (O.written out.new) text }
     ensures output_fault { result ≡ 4 → Rises (O.faults out.old) (O.faults out.new) }
 
-    // A bundle of the form is judged, unless a call outside failed or memory was wanting.
+    // A bundle that has answers gets its report, unless a call outside failed or memory was wanting.
     ensures completes { (bytes : List ℕ) (answers : Results) → IsCheck words.now → I.left input.old ≡ Some bytes → AnswersOf bytes answers
         → ¬ (Rises (I.faults input.old) (I.faults input.new)) → ¬ (Rises (O.faults out.old) (O.faults out.new)) → IsReportOrMemory result }
     ensures input { Moved (I.faults input.old) (I.quiet input.old) (I.faults input.new) (I.quiet input.new) }
@@ -94,7 +94,7 @@ pub fn desk_main<I: Source, O: Sink, K: Keeper, L>(
     ensures steps { _steps.new ≡ _steps.old }
 {
     one_bundle();
-    one_tree();
+    answered_files_have_no_cause();
     let ending = run(alloc, words, input);
     match write_all(out, ending.text.as_slice()) {
         Ok(()) => ending.status.code(),

@@ -24,6 +24,9 @@ const EMPTY_REPORT: &str =
 const TWO_FILES_REPORT: &str =
     "report 1\nfiles 2\ntypes 2\nprogram firm\npromises 0 firm 0 contingent 0 inconsistent 0\nfindings 0 failing 0\nend\n";
 
+const ONE_TYPE_REPORT: &str =
+    "report 1\nfiles 1\ntypes 1\nprogram firm\npromises 0 firm 0 contingent 0 inconsistent 0\nfindings 0 failing 0\nend\n";
+
 const USAGE: &str = "usage: promise_desk check | script DB | serve DB PORT COUNT | sample N\n";
 
 /// A source that gives one byte at a time.
@@ -141,8 +144,8 @@ const RUNS: [(&str, &str, Option<u64>, Option<u64>, u8, &str); 26] = [
         "file A.java 155\nclass A { int f() { return (((((((((((((((((((((((((((((((((((((((((((((((((((((((((((((1))))))))))))))))))))))))))))))))))))))))))))))))))))))))))))); } }\nend\n",
         None,
         None,
-        7,
-        "unreadable A.java form at 0\n",
+        0,
+        ONE_TYPE_REPORT,
     ),
     (
         "check",
@@ -189,12 +192,12 @@ const RUNS: [(&str, &str, Option<u64>, Option<u64>, u8, &str); 26] = [
         "file A.java 11\nclass A { }\nfile B.java 0\n\nend\n",
         None,
         None,
-        7,
-        "unreadable B.java form at 0\n",
+        0,
+        "report 1\nfiles 2\ntypes 1\nprogram firm\npromises 0 firm 0 contingent 0 inconsistent 0\nfindings 0 failing 0\nend\n",
     ),
     (
         "check",
-        "file B.java 0\n\nfile A.java 0\n\nend\n",
+        "file B.java 27\n@Vouch(\"legacy\") class B { }\nfile A.java 27\n@Vouch(\"legacy\") class A { }\nend\n",
         None,
         None,
         7,
@@ -237,11 +240,7 @@ fn ends_as_the_input_says(rt: HostRuntime) -> Result<(), Fail> {
 
 /// Headers of a file, how many bytes of a comment stand behind its class, and how the run ends.
 const LONG_FILES: [(&str, usize, &str); 2] = [
-    (
-        "file Account.java 262144\n",
-        262004,
-        "unreadable Account.java form at 0\n",
-    ),
+    ("file Account.java 262144\n", 262004, BROKEN_REPORT),
     (
         "file Account.java 262145\n",
         262005,
@@ -294,67 +293,61 @@ fn names_the_limit_of_findings(rt: HostRuntime) -> Result<(), Fail> {
     Ok(())
 }
 
-/// Texts of files of the first form.
-const OF_THE_FORM: [&str; 15] = [
-    "class A { }",
-    "class A{}",
-    "@RegionLock(\"L is this protects Instance\") class A { }",
-    "class A { int n; }",
-    "class A { int n; int m; }",
-    "class A { void f() { } int n; }",
-    "class A { int n; void f() { n = 1; } }",
-    "class A { void f() { n = 1; } int n; }",
-    "class A { int n; synchronized int f() { n += n; return n; } }",
-    "class A { int n; int f() { return 2147483647; } }",
-    "class A { int n; void n() { n = 0; } }",
-    "class/**/A{int n;//x\n void f(){n=n;}}",
-    "class A { int f() { return 0; } }",
-    "class RegionLock { int RegionLock; void f() { RegionLock += 1; } }",
-    "class A { int n; void f() { n = 1; n += 2; n = n; } synchronized void g() { } }",
+/// Texts of files, and the reports on them from the line of the program on.
+const JUDGED: [(&str, &str); 11] = [
+    (
+        "@RegionLock(\"L is this protects Instance\")\nclass Account {\n  int n;\n  synchronized void deposit() { n += 1; }\n  @RequiresLock(\"L\") int get() { return n; }\n  int peek() { return get(); }\n}\n",
+        "program firm\npromises 2 firm 0 contingent 0 inconsistent 2\nfindings 4 failing 1\ninconsistent Account RegionLock L blame L03#1 Account.peek/0 > Account.get/0 RequiresLock this:L\ninconsistent Account.get/0 RequiresLock this:L blame L03#1 Account.peek/0 > Account.get/0 RequiresLock this:L\nfinding L03#1 Account.peek/0 > Account.get/0 RequiresLock this:L at A.java:6 calls without a required lock: get\nend\n",
+    ),
+    (
+        "@RegionLock(\"L is this protects Instance\")\nclass A {\n  int n;\n  static void f(A a, A b) { synchronized (b) { a.n = 1; } }\n}\n",
+        "program firm\npromises 1 firm 0 contingent 0 inconsistent 1\nfindings 1 failing 1\ninconsistent A RegionLock L blame L02#1 A.f/2 > A RegionLock L\nfinding L02#1 A.f/2 > A RegionLock L at A.java:4 writes a guarded field without its lock: n\nend\n",
+    ),
+    (
+        "@RegionLock(\"L is this protects Instance\")\nclass A {\n  int n;\n  static void f(A a, A b) { synchronized (a) { a.n = 1; } }\n}\n",
+        "program firm\npromises 1 firm 1 contingent 0 inconsistent 0\nfindings 1 failing 0\nfirm A RegionLock L\nend\n",
+    ),
+    (
+        "@RegionLock(\"L is this protects Instance\")\nclass A {\n  int n;\n  @RequiresLock(\"L\") void p() { n = 1; q(); }\n  @RequiresLock(\"L\") void q() { p(); }\n}\n",
+        "program firm\npromises 3 firm 3 contingent 0 inconsistent 0\nfindings 3 failing 0\nfirm A RegionLock L\nfirm A.p/0 RequiresLock this:L\nfirm A.q/0 RequiresLock this:L\nend\n",
+    ),
+    (
+        "@RegionLock(\"L is m protects Instance\")\nclass C {\n  Object m = new Object();\n  int n;\n}\n",
+        "program firm\npromises 1 firm 0 contingent 0 inconsistent 1\nfindings 1 failing 1\ninconsistent C RegionLock #1 blame S07#1 C > C RegionLock #1\nfinding S07#1 C > C RegionLock #1 at A.java:1 bad lock field: RegionLock\nend\n",
+    ),
+    (
+        "@RegionLock(\"L is m protects\")\nclass C { }\n",
+        "program firm\npromises 1 firm 0 contingent 0 inconsistent 1\nfindings 1 failing 1\ninconsistent C RegionLock #1 blame S01#1 C > C RegionLock #1\nfinding S01#1 C > C RegionLock #1 at A.java:1 bad content: RegionLock\nend\n",
+    ),
+    (
+        "@Region(\"A extends B\")\n@Region(\"B extends A\")\nclass C { }\n",
+        "program firm\npromises 2 firm 0 contingent 0 inconsistent 2\nfindings 2 failing 2\ninconsistent C Region #1 blame S05#1 C > C Region #1\ninconsistent C Region #2 blame S04#1 C > C Region #2\nfinding S05#1 C > C Region #1 at A.java:1 region cycle: Region\nfinding S04#1 C > C Region #2 at A.java:2 unknown region: Region\nend\n",
+    ),
+    (
+        "@RegionLock(\"L is this protects Instance\")\nclass A {\n  B b;\n}\n",
+        "program inconsistent blame B01#1 A.b > Program\npromises 1 firm 0 contingent 0 inconsistent 1\nfindings 1 failing 1\ninconsistent A RegionLock L blame B01#1 A.b > Program\nfinding B01#1 A.b > Program at A.java:3 unknown type: B\nend\n",
+    ),
+    (
+        "class A { boolean b; int f(int n) { return n + 1; } }",
+        "program firm\npromises 0 firm 0 contingent 0 inconsistent 0\nfindings 0 failing 0\nend\n",
+    ),
+    (
+        "interface A { int f(); }",
+        "program firm\npromises 0 firm 0 contingent 0 inconsistent 0\nfindings 0 failing 0\nend\n",
+    ),
+    (
+        "package p; public class A { A() { } }",
+        "program firm\npromises 0 firm 0 contingent 0 inconsistent 0\nfindings 0 failing 0\nend\n",
+    ),
 ];
 
-/// Texts of files that are read and are of another form.
-const OF_OTHER_FORMS: [&str; 40] = [
-    "",
-    "interface A { }",
-    "class A { } class B { }",
-    "package p; class A { }",
-    "import p.B; class A { }",
-    "public class A { }",
-    "class A implements B { }",
-    "@RegionLock(\"L is this protects instance\") class A { }",
-    "@RegionLock(\"L is this protects Instance\") @RegionLock(\"L is this protects Instance\") class A { }",
-    "@Region(\"L is this protects Instance\") class A { }",
-    "@p.RegionLock(\"L is this protects Instance\") class A { }",
-    "@RegionLock({\"L is this protects Instance\"}) class A { }",
-    "@RegionLock(value = \"L is this protects Instance\") class A { }",
-    "class A { int n; int n; }",
-    "class A { void f() { } void f() { } }",
-    "class A { void f() { } int f() { return 0; } }",
-    "class A { boolean b; }",
-    "class A { B b; }",
-    "class A { final int n; }",
-    "class A { static int n; }",
-    "class A { int n = 1; }",
-    "class A { A() { } }",
-    "class A { public void f() { } }",
-    "class A { static void f() { } }",
-    "class A { void f(int a) { } }",
-    "class A { void f() throws E { } }",
-    "class A { boolean f() { return true; } }",
-    "class A { int n; void f() { m = 1; } }",
-    "class A { int n; void f() { n = m; } }",
-    "class A { int n; int f() { return m; } }",
-    "class A { int n; void f() { n -= 1; } }",
-    "class A { int n; void f() { n++; } }",
-    "class A { int n; void f() { this.n = 1; } }",
-    "class A { int n; void f() { n = n + 1; } }",
-    "class A { int n; void f() { n = -1; } }",
-    "class A { int n; void f() { n = (1); } }",
-    "class A { int n; void f() { int a = 1; } }",
-    "class A { int n; void f() { ; } }",
-    "class A { int f() { return 0; return 0; } }",
-    "class A { void f() { return; } }",
+/// Texts of files with a type that isn't judged so far.
+const UNJUDGED: [&str; 5] = [
+    "@Vouch(\"legacy\") class A { }",
+    "class A { @Unique A a; }",
+    "class A { void f(@Borrowed A a) { } }",
+    "class A { @Unique(\"bad content\") A a; }",
+    "class A { @Starts(\"nothing\") void f() { } }",
 ];
 
 /// The bundle of one file.
@@ -364,14 +357,21 @@ fn bundle_of(alloc: Global, text: &str) -> Result<String, Fail> {
 }
 
 #[test]
-fn tells_the_first_form_from_others(rt: HostRuntime) -> Result<(), Fail> {
+fn judges_by_locks(rt: HostRuntime) -> Result<(), Fail> {
     let alloc = rt.alloc();
-    for text in OF_THE_FORM {
+    for (text, report) in JUDGED {
         let bundle = bundle_of(alloc, text)?;
-        let (code, _) = run(alloc, "check", bundle.as_str(), None, None)?;
-        assert!(rt; code < 2, "{text}");
+        let (_, written) = run(alloc, "check", bundle.as_str(), None, None)?;
+        let want = format!(in alloc; "report 1\nfiles 1\ntypes 1\n{report}")?;
+        assert!(rt; written.as_slice() == want.as_bytes(), "{text}");
     }
-    for text in OF_OTHER_FORMS {
+    Ok(())
+}
+
+#[test]
+fn tells_what_is_not_judged(rt: HostRuntime) -> Result<(), Fail> {
+    let alloc = rt.alloc();
+    for text in UNJUDGED {
         let bundle = bundle_of(alloc, text)?;
         let (_, written) = run(alloc, "check", bundle.as_str(), None, None)?;
         assert!(rt;

@@ -1,8 +1,8 @@
 use Rattle.std.proofs.Common.{List, subst}
 use Rattle.bundle.specs.declared.entry.FileEntry.{FileEntry}
-use Rattle.first_project.specs.Kept.{files_of}
-use Rattle.first_project.specs.Answers.{IsPassed}
-use Rattle.promise_desk.proofs.Files.{limit_ends}
+use Rattle.project_files.specs.Kept.{files_of}
+use Rattle.project_judge.specs.Project.{AnswersOn, IsPassed}
+use Rattle.promise_desk.proofs.Files.{limit_ends, report_ends}
 use Rattle.promise_desk.proofs.check.judge_bundle.Goals as goal
 
 pub returns-in-Err-Limit : goal.returns-in-Err-Limit
