@@ -197,7 +197,7 @@ const RUNS: [(&str, &str, Option<u64>, Option<u64>, u8, &str); 26] = [
     ),
     (
         "check",
-        "file B.java 27\n@Vouch(\"legacy\") class B { }\nfile A.java 27\n@Vouch(\"legacy\") class A { }\nend\n",
+        "file B.java 28\n@Vouch(\"legacy\") class B { }\nfile A.java 28\n@Vouch(\"legacy\") class A { }\nend\n",
         None,
         None,
         7,
