@@ -1,6 +1,7 @@
 -- One ending for the bundle that some bytes are.
 use Rattle.std.proofs.Common.{◌≡◌, inl, inr, ℕ, Bool, true, false, List, [], refl, sym, subst, arith, Option, Some, None, Result, Ok, Err, IfOk}
 use Rattle.std.specs.Option.{IfSome}
+use Rattle.std.specs.Result.{result_unwrap_or}
 use Rattle.bundle.specs.Entry.{Entry}
 use Rattle.bundle.specs.Bundle.{IsBundle}
 use Rattle.bundle.proofs.Whole.{bad_no_bundle}
@@ -10,15 +11,17 @@ use Rattle.desk_base.specs.declared.memory.OutOfMemory.{OutOfMemory}
 use Rattle.report.specs.declared.answers.Answers.{Answers}
 use Rattle.report.specs.Report.{report_bytes}
 use Rattle.project_files.specs.Project.{PathsDiffer}
-use Rattle.project_judge.specs.Project.{AnswersOn, IsCauseOf, IsPassed}
+use Rattle.project_files.specs.Trees.{types_of}
+use Rattle.project_surfaces.specs.Fit.{FirstUnfit}
+use Rattle.project_judge.specs.Project.{AnswersOn, IsCauseOf, IsPassed, Read}
 use Rattle.project_judge.specs.declared.error.ProjectError.{ProjectError}
 use Rattle.project_judge.specs.declared.error.ProjectError.TheVariants as error
 use Rattle.promise_desk.specs.declared.status.Status.{Status}
 use Rattle.promise_desk.specs.declared.status.Status.TheVariants as status
 use Rattle.promise_desk.specs.Check.{AnswersOf, Checks, IsTaken, NamesRows, is_inconsistent}
 use Rattle.promise_desk.specs.declared.check.Ending.{Ending}
-use Rattle.promise_desk.specs.Intake.{WasTooLong}
-use Rattle.promise_desk.specs.Status.{code_of, limit_line}
+use Rattle.promise_desk.specs.Intake.{WasRead, WasTooLong}
+use Rattle.promise_desk.specs.Status.{code_of, fixed_line, limit_line, unfit_line}
 use Rattle.promise_desk.specs.Endings.{EndsAs, text_of, status_of, status_with, CheckEnds, IsReport, RunEnds, IsReportOrMemory}
 
 report_by : (bytes : List ℕ) (answers : Answers) (text : List ℕ) (b : Bool) → is_inconsistent answers ≡ b → AnswersOf bytes answers → NamesRows answers → text ≡ report_bytes answers
@@ -49,6 +52,31 @@ too_long left after rose s text long is same =
     long_by None long = tt
     long_by (Some bytes) long = (limit.BundleBytes, inl (refl, long), same)
 
+-- what a check of all that was left gives
+ends_by : (left after : Option (List ℕ)) (rose : Type 0) (bytes : List ℕ) (s : Status) (text : List ℕ) → WasRead left after bytes → Checks bytes s text → CheckEnds left after rose s text
+ends_by left after rose bytes status.Usage text read checks = absurd checks
+ends_by left after rose bytes status.OutputFault text read checks = absurd checks
+ends_by left after rose bytes status.InputFault text read checks = absurd checks
+ends_by left after rose bytes status.Memory text read checks = absurd checks
+ends_by None after rose bytes status.Limit text read checks = tt
+ends_by (Some b) after rose bytes status.Limit text read checks = subst (λ (x : List ℕ). Checks x status.Limit text) (sym read.0) checks
+ends_by None after rose bytes status.Consistent text read checks = tt
+ends_by (Some b) after rose bytes status.Consistent text read checks = (subst (λ (x : List ℕ). Checks x status.Consistent text) (sym read.0) checks, read.1)
+ends_by None after rose bytes status.Inconsistent text read checks = tt
+ends_by (Some b) after rose bytes status.Inconsistent text read checks = (subst (λ (x : List ℕ). Checks x status.Inconsistent text) (sym read.0) checks, read.1)
+ends_by None after rose bytes status.BadBundle text read checks = tt
+ends_by (Some b) after rose bytes status.BadBundle text read checks = (subst (λ (x : List ℕ). Checks x status.BadBundle text) (sym read.0) checks, read.1)
+ends_by None after rose bytes status.Unreadable text read checks = tt
+ends_by (Some b) after rose bytes status.Unreadable text read checks = (subst (λ (x : List ℕ). Checks x status.Unreadable text) (sym read.0) checks, read.1)
+ends_by None after rose bytes status.DuplicateType text read checks = tt
+ends_by (Some b) after rose bytes status.DuplicateType text read checks = (subst (λ (x : List ℕ). Checks x status.DuplicateType text) (sym read.0) checks, read.1)
+
+-- what was judged, or the line of want of memory
+pub judged_ends : (left after : Option (List ℕ)) (rose : Type 0) (bytes : List ℕ) (r : Result Ending OutOfMemory) (other : Ending) → WasRead left after bytes → IfOk r (EndsAs bytes)
+    → other.status ≡ status.Memory → text_of other.text ≡ fixed_line status.Memory → CheckEnds left after rose (result_unwrap_or r other).status (text_of (result_unwrap_or r other).text)
+judged_ends left after rose bytes (Ok e) other read made is same = ends_by left after rose bytes e.status (text_of e.text) read made
+judged_ends left after rose bytes (Err e) other read made is same = subst (λ (s : Status). CheckEnds left after rose s (text_of other.text)) (sym is) same
+
 -- ---- one ending for a bundle that has answers
 
 -- files that have answers have no cause why they aren't judged
@@ -74,10 +102,10 @@ reported none bytes answers status.DuplicateType text one of (name, first, secon
 reported none bytes answers status.Limit text one of (which, inl (is, long), same) = absurd (omega (arith, of.taken.few))
 reported none bytes answers status.Limit text one of (which, inr (files, taken, passed), same) =
     let other = never none bytes answers files (error.Limit which) one of taken passed in absurd (cc)
-reported none bytes answers status.Usage text one of no = no
-reported none bytes answers status.InputFault text one of no = no
-reported none bytes answers status.OutputFault text one of no = no
-reported none bytes answers status.Memory text one of no = no
+reported none bytes answers status.Usage text one of checks = absurd checks
+reported none bytes answers status.InputFault text one of checks = absurd checks
+reported none bytes answers status.OutputFault text one of checks = absurd checks
+reported none bytes answers status.Memory text one of checks = absurd checks
 
 -- a run over a bundle that has answers ends with a report, or memory was wanting
 pub run_completes : NoCause → (check : Type 0) (left after : Option (List ℕ)) (rose : Type 0) (s : Status) (text bytes : List ℕ) (answers : Answers)
@@ -109,3 +137,11 @@ limit_ends bytes files which (Ok e) taken passed made =
     let P : Status → Type 0 = λ s. Checks bytes s (text_of e.text) in
     subst P (sym made.0) (which, inr (files, taken, passed), made.1)
 limit_ends bytes files which (Err e) taken passed made = tt
+
+-- the line of a file with a type that isn't judged so far
+pub unfit_ends : (bytes : List ℕ) (files : List Entry) (path : List ℕ) (r : Result Ending OutOfMemory) → IsTaken files bytes → Read files (λ trees. FirstUnfit (types_of trees) path)
+    → IfOk r (λ e. (e.status ≡ status.Unreadable) × (text_of e.text ≡ unfit_line path)) → IfOk r (EndsAs bytes)
+unfit_ends bytes files path (Ok e) taken first made =
+    let P : Status → Type 0 = λ s. Checks bytes s (text_of e.text) in
+    subst P (sym made.0) (inr (path, record { files = files; taken = taken; first = first }, made.1))
+unfit_ends bytes files path (Err e) taken first made = tt
