@@ -11,9 +11,8 @@ class() {
     cat <<JAVA
 @RegionLock("L is this protects Instance")
 class C$1 {
-  private int n;
+  private int n = 1;
   private int last;
-  C$1(int first) { n = first; last = first; }
   synchronized int step(C$next other, int by) {
     add(by);
     for (int i = 0; i < by; i++) { last += n * i; }

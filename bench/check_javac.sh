@@ -13,9 +13,8 @@ while [ "$number" -lt "$count" ]; do
     cat >"$work/java/C$number.java" <<JAVA
 @RegionLock("L is this protects Instance")
 class C$number {
-  private int n;
+  private int n = 1;
   private int last;
-  C$number(int first) { n = first; last = first; }
   synchronized int step(C$next other, int by) {
     add(by);
     for (int i = 0; i < by; i++) { last += n * i; }
