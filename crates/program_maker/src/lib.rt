@@ -1,6 +1,6 @@
-//! Programs: what the bound units of a project's types become, one numbering of names for all of
-//! them, and that the program is well typed. It knows bound units, surfaces and core code, and
-//! nothing of Java's text, of how a unit is bound, or of promises.
+//! Programs: what the bound units of a project's types become, with one numbering of names for all of
+//! them. It knows bound units, surfaces and core code, and nothing of Java's text, of how a unit is
+//! bound, of types, or of promises.
 #![tactic(auto)]
 
 mod classes;

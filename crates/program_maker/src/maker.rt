@@ -104,7 +104,7 @@ fn whole_program<'a>(
     })
 }
 
-/// Begins a program of these types, so far without units. It takes no memory.
+/// Begins a program of these types, so far without units. Its one error is want of memory.
 pub fn program_of<'a>(
     alloc: Global,
     surfaces: &'a Surfaces,

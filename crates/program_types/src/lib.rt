@@ -1,5 +1,6 @@
-//! That a program is well typed: what units that are typed by names are by the numbers of a program.
-//! It knows typed units, core code and how a program numbers names, and nothing of what binds a unit.
+//! The types of a program, and what units that are typed by names are by numbers that fit these names.
+//! It knows typed units, core code and how a program numbers names, and nothing of what binds a unit;
+//! that the numbers of a program fit isn't shown here.
 #![tactic(auto)]
 
 mod laws;
